@@ -1,0 +1,3 @@
+-- Laws of the rules, one file beside each file of specs/. Tests has the words that proofs decide by.
+pub mod Tests
+pub mod Counting

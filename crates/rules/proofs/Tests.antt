@@ -1,0 +1,52 @@
+-- Deciding by a test, and what a test of several parts says of each.
+use mathlib.Core.Path.{_≡_, refl}
+use mathlib.Core.Bool.{Bool, true, false, not, cond, _&&_}
+use mathlib.Core.Logic.{_⊎_, inl, inr}
+use Prim.Native.Nat.{ℕ, _≤_, _<_}
+use native.Mathlib.Omega.{arith}
+use native.Mathlib.Decide.{decLt, ℕ-discrete}
+
+-- by a test, with its value
+pub byTest {ℓ} : {A : Type ℓ} (b : Bool) → (b ≡ true → A) → (b ≡ false → A) → A
+byTest true y n = y refl
+byTest false y n = n refl
+
+-- two numbers are in one order or the other, equal or not
+pub lt-or : (a b : ℕ) → (a < b) ⊎ (b ≤ a)
+lt-or a b = elim (decLt a b) [ yes h ↦ inl h | no h ↦ inr (omega arith) ]
+
+pub eq-or : (a b : ℕ) → (a ≡ b) ⊎ (a ≡ b → ⊥)
+eq-or a b = elim (ℕ-discrete a b) [ yes h ↦ inl h | no h ↦ inr h ]
+
+-- a test has one value
+pub true-false : true ≡ false → ⊥
+true-false e = let z : _≡_ {A = ℕ} 0 1 = cc in omega arith
+
+pub false-true : false ≡ true → ⊥
+false-true e = let z : _≡_ {A = ℕ} 0 1 = cc in omega arith
+
+-- a test of two parts
+pub and-left : (a b : Bool) → a && b ≡ true → a ≡ true
+and-left true b e = refl
+and-left false b e = e
+
+pub and-right : (a b : Bool) → a && b ≡ true → b ≡ true
+and-right true b e = e
+and-right false b e = absurd (false-true e)
+
+pub and-both : (a b : Bool) → a ≡ true → b ≡ true → a && b ≡ true
+and-both a b e q = rw (e, q)
+
+pub and-not-left : (a b : Bool) → a ≡ false → a && b ≡ false
+and-not-left a b e = rw e
+
+pub and-not-right : (a b : Bool) → b ≡ false → a && b ≡ false
+and-not-right true b e = e
+and-not-right false b e = refl
+
+-- a choice by a test that is known
+pub cond-true {ℓ} : {A : Type ℓ} (b : Bool) (x y : A) → b ≡ true → cond b x y ≡ x
+cond-true b x y e = rw e
+
+pub cond-false {ℓ} : {A : Type ℓ} (b : Bool) (x y : A) → b ≡ false → cond b x y ≡ y
+cond-false b x y e = rw e
