@@ -1,0 +1,9 @@
+# make test   the gate: layout, proofs, must-fail edits and stored runs
+# make run    shows what the rules say today
+
+CHECKS = rt fmt --check\nrt ci\n
+
+.PHONY: test run
+
+test:
+	@printf '$(CHECKS)' | tests/gate
