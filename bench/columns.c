@@ -1,12 +1,7 @@
 // The executive in the fastest C we know how to write over the proved executive's own columns: in place, branch-free tests that
-// the compiler turns into vector code, one remainder per task and tick, rows walked only where something is due. The plan is typed
-// in from plain.c's planner, so it takes the letters f and s only.
-#include <stdbool.h>
-#include <stdio.h>
-#include <string.h>
-
+// the compiler turns into vector code, one remainder per task and tick, rows walked only where something is due or released.
 #include "executive.h"
-#include "machine.h"
+#include "tables.h"
 
 typedef enum { TASK_IDLE, TASK_WAITING, TASK_STARTED } Phase;
 
@@ -25,21 +20,23 @@ typedef struct {
     bool ticked, halted;
 } State;
 
-// The plan of the bench's two machines: all tasks in table order, and the belt ahead of the others.
-static void fresh(State *s, const uint16_t *tasks, size_t task_words, const uint16_t *rows, size_t row_words) {
+static bool fresh(State *s, const uint16_t *tasks, size_t task_words, const uint16_t *rows, size_t row_words) {
+    Plan p = plan(tasks, task_words, rows, row_words);
     memset(s, 0, sizeof *s);
-    s->count = task_words / 5, s->rows = row_words / 3;
-    s->multiple = s->count == FULL_TASKS ? 360 : 10;
+    s->halted = p.refusal != 0;
+    if (s->halted) return false;
+    s->count = task_words / 5, s->rows = row_words / 3, s->multiple = p.multiple;
+    memcpy(s->order, p.order, sizeof s->order);
     for (size_t i = 0; i < s->count; i++) {
         const uint16_t *t = tasks + 5 * i;
         s->periods[i] = t[0], s->deadlines[i] = t[1], s->computes[i] = t[2];
         s->criticalities[i] = (uint8_t)t[3], s->enforced[i] = t[4] == 1;
-        s->order[i] = (uint8_t)(s->count == FULL_TASKS ? i : (i + 3) % 4);
     }
     for (size_t c = 0; c < s->rows; c++) {
         const uint16_t *r = rows + 3 * c;
         s->senders[c] = (uint8_t)r[0], s->receivers[c] = (uint8_t)r[1], s->undelayed[c] = r[2] == 1;
     }
+    return true;
 }
 
 static bool in_range(const State *s) {
@@ -126,7 +123,6 @@ static Answer complete(State *s, uint32_t word) {
 
 static uint32_t input_of(const State *s, size_t c) { return s->inputs[c]; }
 
-#define EXECUTIVE_ONLY
 #include "drive.h"
 
 int main(void) { return drive(); }

@@ -1,7 +1,13 @@
-// What a program of the bench does: the same calls in the same order, and the sum of what they answer. It is included
-// behind the definitions of State, fresh, tick, complete and input_of, and of plan and read_file where there are any.
+// What a program of the bench does. Standard input has a letter, a digit and a machine file: t for ticks of the machine, p for
+// plans of its tables, r for reads of its file, ten to the power of the digit times. It prints one number, the sum of what the
+// calls answered, so that no work can be left out unseen and all programs can be compared. It is included behind the definitions
+// of State, fresh, tick, complete and input_of.
 #ifndef DRIVE_H
 #define DRIVE_H
+
+#include <stdio.h>
+
+static uint32_t mixed(uint32_t sum, uint32_t x) { return sum % 1000003 * 31 + x % 1000; }
 
 static uint32_t code_of(Answer a) {
     switch (a.kind) {
@@ -12,7 +18,7 @@ static uint32_t code_of(Answer a) {
     }
 }
 
-// A tick, and then up to two completions: the jobs of a tick take a while.
+// A tick, and then up to two completions: jobs end in the tick that they run in, or in the next one.
 static uint32_t run_ticks(State *s, uint32_t times) {
     uint32_t sum = 0;
     for (uint32_t i = 0; i < times; i++) {
@@ -27,37 +33,20 @@ static uint32_t run_ticks(State *s, uint32_t times) {
     return sum;
 }
 
-static uint32_t run_machine(int full, uint32_t times) {
-    static State s;
-    uint16_t tasks[160], rows[192];
-    if (full) {
-        full_tables(tasks, rows);
-        fresh(&s, tasks, 5 * FULL_TASKS, rows, 3 * FULL_ROWS);
-    } else {
-        small_tables(tasks, rows);
-        fresh(&s, tasks, 5 * SMALL_TASKS, rows, 3 * SMALL_ROWS);
-    }
-    return run_ticks(&s, times);
-}
-
-#ifndef EXECUTIVE_ONLY
-static uint32_t run_plans(uint32_t times) {
-    uint16_t tasks[160], rows[192];
+// The first task's criticality changes with the sum, so that no plan can be moved out of the loop.
+static uint32_t run_plans(uint16_t *tasks, size_t task_words, const uint16_t *rows, size_t row_words, uint32_t times) {
     uint32_t sum = 0;
-    full_tables(tasks, rows);
     for (uint32_t i = 0; i < times; i++) {
         tasks[3] = (uint16_t)(sum % 2);
-        Plan p = plan(tasks, 160, rows, 192);
+        Plan p = plan(tasks, task_words, rows, row_words);
         sum = mixed(sum, p.multiple + p.deadline[0] + p.criticality[1] + p.order[31]);
     }
     return sum;
 }
 
-static uint32_t run_reads(uint32_t times) {
-    uint8_t file[642];
+static uint32_t run_reads(uint8_t *file, size_t length, uint32_t times) {
     uint16_t tasks[160] = {0}, rows[192] = {0};
     uint32_t sum = 0;
-    size_t length = full_file(file);
     for (uint32_t i = 0; i < times; i++) {
         file[8] = (uint8_t)(sum % 2);
         Reading r = read_file(file, length, tasks, 160, rows, 192);
@@ -65,19 +54,25 @@ static uint32_t run_reads(uint32_t times) {
     }
     return sum;
 }
-#endif
+
+static uint32_t run(uint8_t what, uint32_t times, uint8_t *file, size_t length) {
+    static State s;
+    uint16_t tasks[160] = {0}, rows[192] = {0};
+    Reading r = read_file(file, length, tasks, 160, rows, 192);
+    if (r.refusal != 0 || r.tasks == 0) return 0;
+    if (what == 'p') return run_plans(tasks, 5 * r.tasks, rows, 3 * r.rows, times);
+    if (what == 'r') return run_reads(file, length, times);
+    if (what != 't' || !fresh(&s, tasks, 5 * r.tasks, rows, 3 * r.rows)) return 0;
+    return run_ticks(&s, times);
+}
 
 static int drive(void) {
-    int what = getchar(), digit = getchar();
+    uint8_t input[1024];
+    size_t length = fread(input, 1, sizeof input, stdin);
+    if (length < 2) return 1;
     uint32_t times = 1;
-    for (int k = '0'; k < digit && k < '9'; k++) times *= 10;
-    uint32_t sum = 0;
-    if (what == 'f' || what == 's') sum = run_machine(what == 'f', times);
-#ifndef EXECUTIVE_ONLY
-    if (what == 'p') sum = run_plans(times);
-    if (what == 'r') sum = run_reads(times);
-#endif
-    printf("%u\n", sum);
+    for (int k = '0'; k < input[1] && k < '9'; k++) times *= 10;
+    printf("%u\n", run(input[0], times, input + 2, length - 2));
     return 0;
 }
 
