@@ -1,3 +1,5 @@
 -- Laws of the rules, one file beside each file of specs/. Tests has the words that proofs decide by.
 pub mod Tests
 pub mod Counting
+pub mod Pigeonhole
+pub mod Chains
