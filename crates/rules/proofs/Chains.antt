@@ -12,9 +12,15 @@ use native.Mathlib.Omega.{arith}
 use native.Mathlib.Nat.{add-suc, add-zero, zero-add}
 use lib.Dec.{leb}
 use borrow.Author.Tests.{le-leb, lt-leb}
-use Rattle.rules.specs.Chains.{Chain, Reaches, Acyclic, Longest, Upto}
+use Rattle.rules.specs.Chains.{Chain, Reaches, Acyclic, Longest}
 use Rattle.rules.proofs.Tests.{lt-or, cond-true, cond-false}
 use Rattle.rules.proofs.Pigeonhole.{Twice, pigeonhole}
+
+-- the longest chain from i to j among those of at most n connections; 0 where there is none
+pub record Upto (E : ℕ → ℕ → Type 0) (n i j b : ℕ) : Type 0 where
+  pub within : b ≤ n
+  pub is : 0 < b → Chain E b i j
+  pub most : (k : ℕ) → b < k → k ≤ n → Chain E k i j → ⊥
 
 -- ---------------------------------------------------------------------------------------------------------------------------
 -- A chain as a walk

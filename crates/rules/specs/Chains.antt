@@ -1,7 +1,7 @@
 -- 01, "Working out the order": chains of undelayed connections.
 use mathlib.Core.Path.{_≡_}
 use mathlib.Core.List.{List}
-use Prim.Native.Nat.{ℕ, zero, suc, _≤_, _<_}
+use Prim.Native.Nat.{ℕ, zero, suc, _<_}
 use Rattle.rules.specs.Tables.{rows, sender, receiver, kind}
 
 -- an undelayed connection leads from task i to task j
@@ -21,12 +21,6 @@ Reaches E i j = (k : ℕ) × (0 < k) × Chain E k i j
 pub record Longest (E : ℕ → ℕ → Type 0) (i j b : ℕ) : Type 0 where
   pub is : 0 < b → Chain E b i j
   pub most : (k : ℕ) → b < k → Chain E k i j → ⊥
-
--- the same among chains of at most n connections
-pub record Upto (E : ℕ → ℕ → Type 0) (n i j b : ℕ) : Type 0 where
-  pub within : b ≤ n
-  pub is : 0 < b → Chain E b i j
-  pub most : (k : ℕ) → b < k → k ≤ n → Chain E k i j → ⊥
 
 -- no chain returns to its start
 abbrev pub Acyclic : (ℕ → ℕ → Type 0) → Type 0
