@@ -3,3 +3,4 @@ pub mod Tests
 pub mod Counting
 pub mod Pigeonhole
 pub mod Chains
+pub mod Refusals
