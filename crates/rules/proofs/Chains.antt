@@ -139,6 +139,15 @@ module _ (E : ℕ → ℕ → Type 0) where
     chain-bounded free k i j c =
         ⊎-elim (λ h. h) (λ h. let r = round-in k i j h c in absurd (free (r .v) (r .l, r .some, r .round))) (lt-or k n)
 
+    -- and where one leads from i to j, a longest does, though which is not known: were none of k or more the longest, each would
+    -- have a longer one
+    pub longest-not-missing : Acyclic E → (k i j : ℕ) → 0 < k → Chain E k i j → ((b : ℕ) → k ≤ b → Longest E i j b → ⊥) → ⊥
+    longest-not-missing free k i j h c none = go n k (omega arith) (omega arith) c
+      where
+        go : (m l : ℕ) → n ≤ l + m → k ≤ l → Chain E l i j → ⊥
+        go zero l g le d = omega (arith, chain-bounded free l i j d)
+        go (suc m) l g le d = none l le (record { is = λ p. d; most = λ x up e. go m x (omega arith) (omega arith) e })
+
     -- where a chain leads from i to j, one of at most n connections does
     shorter : (m k i j : ℕ) → k ≤ m → 0 < k → Chain E k i j → (l : ℕ) × (0 < l) × (l ≤ n) × Chain E l i j
     shorter zero k i j h q c = absurd (omega arith)

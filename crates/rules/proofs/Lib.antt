@@ -4,3 +4,4 @@ pub mod Counting
 pub mod Pigeonhole
 pub mod Chains
 pub mod Refusals
+pub mod Order
