@@ -5,3 +5,4 @@ pub mod Pigeonhole
 pub mod Chains
 pub mod Refusals
 pub mod Order
+pub mod Plans
