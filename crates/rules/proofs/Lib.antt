@@ -6,3 +6,5 @@ pub mod Chains
 pub mod Refusals
 pub mod Order
 pub mod Plans
+pub mod Answers
+pub mod Steps

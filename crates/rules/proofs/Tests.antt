@@ -50,3 +50,18 @@ cond-true b x y e = rw e
 
 pub cond-false {ℓ} : {A : Type ℓ} (b : Bool) (x y : A) → b ≡ false → cond b x y ≡ y
 cond-false b x y e = rw e
+
+-- what is done behind a choice may be done to both
+pub cond-map {ℓ m} : {A : Type ℓ} {B : Type m} (f : A → B) (b : Bool) (x y : A) → f (cond b x y) ≡ cond b (f x) (f y)
+cond-map f true x y = refl
+cond-map f false x y = refl
+
+-- a choice between two alike
+pub cond-same {ℓ} : {A : Type ℓ} (b : Bool) (x : A) → cond b x x ≡ x
+cond-same true x = refl
+cond-same false x = refl
+
+-- what holds of both holds of the choice
+pub cond-both {ℓ m} : {A : Type ℓ} (P : A → Type m) (b : Bool) (x y : A) → P x → P y → P (cond b x y)
+cond-both P true x y p q = p
+cond-both P false x y p q = q
