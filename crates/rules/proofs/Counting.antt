@@ -48,6 +48,14 @@ module _ {A : Type 0} where
   mapBelow-none f (suc n) [] h = refl
   mapBelow-none f (suc n) (x ∷ xs) h = rw (h zero (omega arith) x, mapBelow-none (λ k. f (suc k)) n xs (λ k l. h (suc k) (omega arith)))
 
+  -- what a change keeps of each element
+  pub mapBelow-keeps : (P : A → Type 0) (f : ℕ → A → A) → ((k : ℕ) (x : A) → P x → P (f k x)) →
+      (n : ℕ) (xs : List A) (k : ℕ) (d : A) → P (getD xs k d) → P (getD (mapBelow f n xs) k d)
+  mapBelow-keeps P f h zero xs k d p = p
+  mapBelow-keeps P f h (suc n) [] k d p = p
+  mapBelow-keeps P f h (suc n) (x ∷ xs) zero d p = h zero x p
+  mapBelow-keeps P f h (suc n) (x ∷ xs) (suc k) d p = mapBelow-keeps P (λ j. f (suc j)) (λ j. h (suc j)) n xs k d p
+
   more : (f : ℕ → A → A) (n : ℕ) (xs : List A) (d : A) → set (mapBelow f n xs) n (f n (getD xs n d)) ≡ mapBelow f (suc n) xs
   more f zero [] d = refl
   more f zero (x ∷ xs) d = refl

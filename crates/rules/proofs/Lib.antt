@@ -8,3 +8,6 @@ pub mod Order
 pub mod Plans
 pub mod Answers
 pub mod Steps
+pub mod Range
+pub mod Kept
+pub mod Calls

@@ -1,13 +1,13 @@
 -- Refusal 16 as facts: what a state in range gives, and what makes a state one. An order that passes names each task once: as there
 -- are as many places as tasks and each task has one, a second place for a task would leave too few for the others (pigeonhole).
-use mathlib.Core.Path.{_≡_, refl, ap, sym, _∙_}
-use mathlib.Core.Bool.{Bool, true, false, cond, _&&_}
+use mathlib.Core.Path.{_≡_, ap, sym, _∙_}
+use mathlib.Core.Bool.{Bool, true, cond, _&&_}
 use mathlib.Core.Logic.{⊎-elim}
 use Prim.Native.Nat.{ℕ, _≤_, _<_}
 use native.Mathlib.Omega.{arith}
-use lib.Dec.{eqb, leb, ltb}
+use lib.Dec.{leb, ltb}
 use borrow.Author.Tests.{leb-true, ltb-true, eqb-true, le-leb, lt-ltb, le-ltb, eq-eqb}
-use Rattle.rules.specs.Counting.{firstOf, allBelow}
+use Rattle.rules.specs.Counting.{allBelow}
 use Rattle.rules.specs.Sizes.{mostTasks, mostRows, longestPeriod, mostMultiple}
 use Rattle.rules.specs.Views.{period, deadline, compute, sender, receiver, ordered, dispatch}
 use Rattle.rules.specs.Range.{sizesFit, timesFit, dispatchFits, rowFits, placeFits, names, placeOf, hasPlace, tasksFit, rowsFit, orderFits, inRange}

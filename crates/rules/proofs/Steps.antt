@@ -1,12 +1,10 @@
 -- What each step does to each view of the state, and that no step changes the plan. The long proofs about steps go by these laws
 -- and look at no list. Step 4 looks at no cycle, so steps 4 and 5 may change places.
 use mathlib.Core.Path.{_≡_, refl, ap, sym, _∙_}
-use mathlib.Core.Bool.{Bool, true, false, not, cond, _&&_}
-use mathlib.Core.List.{List}
-use Prim.Native.Nat.{ℕ, _+_, _≤_, _<_}
-use lib.ListN.{getD, set, length}
+use mathlib.Core.Bool.{Bool, true, false, cond, _&&_}
+use Prim.Native.Nat.{ℕ, _<_}
+use lib.ListN.{getD, length}
 use lib.Seq.{getD-set-same, getD-set-other}
-use lib.Dec.{eqb}
 use Rattle.rules.specs.Views.{waiting, taskIn, phaseOf, output, dispatch, buffer, input, moved}
 use Rattle.rules.specs.Steps.{step, delivers, delivered, samples, wakes, records, released, dispatched, someRuns, running, takes, startedAt, chosen, advanced, posts, endedAt}
 use Rattle.rules.specs.declared.Phase.{Phase}
@@ -16,7 +14,7 @@ use Rattle.rules.specs.declared.State.{State}
 use Rattle.rules.specs.declared.Step.{Step}
 use Rattle.rules.specs.declared.Answer.{Answer}
 use Rattle.rules.specs.declared.Answer.the-variants as answer
-use Rattle.rules.proofs.Tests.{cond-map, cond-same, cond-both}
+use Rattle.rules.proofs.Tests.{cond-map, cond-same, cond-by}
 use Rattle.rules.proofs.Counting.{mapBelow-at}
 
 abbrev phaseIn : Task → Phase
@@ -144,7 +142,7 @@ chosen-keeps {A = A} view s e =
     ∙ (cond-map view (starts s) (startedAt s (running s)) s ∙ (ap (λ (x : A). cond (starts s) x (view s)) e ∙ cond-same (starts s) (view s)))
 
 pub chosen-plan : (s : State) → SamePlan s (chosen s .state)
-chosen-plan s = rw (chosen-state s) (cond-both (SamePlan s) (starts s) (startedAt s (running s)) s (startedAt-plan s (running s)) refl)
+chosen-plan s = rw (chosen-state s) (cond-by (SamePlan s) (starts s) (startedAt s (running s)) s (λ _. startedAt-plan s (running s)) (λ _. refl))
 
 pub chosen-phase : (s : State) → running s < length (s .tasks) → phaseOf (chosen s .state) (running s) ≡ cond (starts s) phase.Started (phaseOf s (running s))
 chosen-phase s l =

@@ -61,7 +61,7 @@ pub cond-same {ℓ} : {A : Type ℓ} (b : Bool) (x : A) → cond b x x ≡ x
 cond-same true x = refl
 cond-same false x = refl
 
--- what holds of both holds of the choice
-pub cond-both {ℓ m} : {A : Type ℓ} (P : A → Type m) (b : Bool) (x y : A) → P x → P y → P (cond b x y)
-cond-both P true x y p q = p
-cond-both P false x y p q = q
+-- what holds of each side under its test holds of the choice
+pub cond-by {ℓ m} : {A : Type ℓ} (P : A → Type m) (b : Bool) (x y : A) → (b ≡ true → P x) → (b ≡ false → P y) → P (cond b x y)
+cond-by P true x y p q = p refl
+cond-by P false x y p q = q refl
