@@ -11,3 +11,5 @@ pub mod Steps
 pub mod Range
 pub mod Kept
 pub mod Calls
+pub mod Sampling
+pub mod Runs
