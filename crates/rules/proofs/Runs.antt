@@ -2,3 +2,4 @@
 -- task and of one connection row.
 pub mod Jobs
 pub mod OneTask
+pub mod OneRow
