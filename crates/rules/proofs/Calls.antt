@@ -40,7 +40,7 @@ unfolding judged
 judged-on ranged halted s r e q = rw (e, q)
 
 -- what holds of a call that is carried out, and of a refusal of the state given, holds of the judged call
-judged-by : (P : Step → Type 0) (ranged halted : Bool) (s : State) (r : Step) →
+pub judged-by : (P : Step → Type 0) (ranged halted : Bool) (s : State) (r : Step) →
     ((n : ℕ) → P (step (answer.Refused n 0) s)) → (ranged ≡ true → halted ≡ false → P r) → P (judged ranged halted s r)
 unfolding judged
 judged-by P true true s r stop go = stop isHalted
@@ -53,7 +53,7 @@ judged-by P false halted s r stop go = stop outOfRange
 abbrev ReturnsIfRefused : State → Step → Type 0
 ReturnsIfRefused s r = refused (r .answer) ≡ true → r .state ≡ s
 
-chosen-accepts : (s : State) → refused (chosen s .answer) ≡ false
+pub chosen-accepts : (s : State) → refused (chosen s .answer) ≡ false
 chosen-accepts s =
     rw (chosen-answer s)
     (cond-by (λ (a : Answer). refused a ≡ false) (someRuns s) (answer.Running (running s)) answer.Idle (λ _. refl) (λ _. refl))

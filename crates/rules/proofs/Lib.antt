@@ -1,6 +1,9 @@
--- Laws of the rules, one file beside each file of specs/. Tests has the words that proofs decide by.
+-- Laws of the rules, one file beside each file of specs/. Tests has the words that proofs decide by, Parts the parts of lists that code lends.
 pub mod Tests
+pub mod Parts
 pub mod Counting
+pub mod File
+pub mod FileFront
 pub mod Pigeonhole
 pub mod Chains
 pub mod Refusals
@@ -13,3 +16,9 @@ pub mod Kept
 pub mod Calls
 pub mod Sampling
 pub mod Runs
+pub mod Deciding
+pub mod DecidingChains
+pub mod DecidingRefusals
+pub mod DecidingPlans
+pub mod Bench
+pub mod Cases

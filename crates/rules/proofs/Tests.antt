@@ -1,6 +1,6 @@
 -- Deciding by a test, and what a test of several parts says of each.
 use mathlib.Core.Path.{_≡_, refl}
-use mathlib.Core.Bool.{Bool, true, false, not, cond, _&&_}
+use mathlib.Core.Bool.{Bool, true, false, not, cond, _&&_, _||_}
 use mathlib.Core.Logic.{_⊎_, inl, inr}
 use Prim.Native.Nat.{ℕ, _≤_, _<_}
 use native.Mathlib.Omega.{arith}
@@ -43,6 +43,19 @@ and-not-left a b e = rw e
 pub and-not-right : (a b : Bool) → b ≡ false → a && b ≡ false
 and-not-right true b e = e
 and-not-right false b e = refl
+
+-- one of two parts fails, or one of two stands
+pub and-false : (a b : Bool) → a && b ≡ false → (a ≡ false) ⊎ (b ≡ false)
+and-false true b e = inr e
+and-false false b e = inl refl
+
+pub or-true : (a b : Bool) → a || b ≡ true → (a ≡ true) ⊎ (b ≡ true)
+or-true true b e = inl refl
+or-true false b e = inr e
+
+pub or-false : (a b : Bool) → a || b ≡ false → (a ≡ false) × (b ≡ false)
+or-false true b e = absurd (true-false e)
+or-false false b e = (refl, e)
 
 -- a choice by a test that is known
 pub cond-true {ℓ} : {A : Type ℓ} (b : Bool) (x y : A) → b ≡ true → cond b x y ≡ x

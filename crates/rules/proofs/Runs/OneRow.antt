@@ -24,7 +24,7 @@ use Rattle.rules.specs.Sampling.{upTo, said}
 use Rattle.rules.proofs.Tests.{byTest, lt-or, false-true, true-false}
 use Rattle.rules.proofs.Sampling.{upTo-above, upTo-within, same-count, said-more, said-last, length-more}
 use Rattle.rules.proofs.Runs.Jobs.{before, latest, latest-lt, latest-counts, same-mod, slower, before-above}
-use Rattle.rules.proofs.Runs.OneTask.{Timed, TaskFact, Clock, due, freed, working, due-count, deadlines-same, freed-true, freed-false, jobs-at, jobs-more, latest-now, latest-same, later, idle-at-dispatch}
+use Rattle.rules.proofs.Runs.OneTask.{Paced, TaskFact, Clock, due, freed, working, due-count, deadlines-same, freed-true, freed-false, jobs-at, jobs-more, latest-now, latest-same, later, idle-at-dispatch}
 
 pub record DelayedFact (Ps Ds Pr T : ℕ) (ws : List ℕ) (xr : Phase) (buffer input : ℕ) : Type 0 where
   pub d-buffer : buffer ≡ said ws (before Ps Ds T)
@@ -42,33 +42,33 @@ pub record UndelayedFact (Ps Pr T : ℕ) (ws : List ℕ) (xr : Phase) (buffer in
 -- ---------------------------------------------------------------------------------------------------------------------------
 -- A tick, at which neither task is late
 
-module _ (Ps Ds Pr Dr M T t : ℕ) (ticked : Bool) (zs : Timed Ps Ds M) (zr : Timed Pr Dr M) (c : Clock M T t ticked)
-    (ws wr : List ℕ) (xs xr : Phase) (os or ds dr b i : ℕ) (fs : TaskFact Ps Ds M T ws xs os ds) (fr : TaskFact Pr Dr M T wr xr or dr)
+module _ {Ps Ds Pr Dr M T t : ℕ} {ticked : Bool} {ws wr : List ℕ} {xs xr : Phase} {os or ds dr : ℕ}
+    (zs : Paced Ps Ds M) (zr : Paced Pr Dr M) (c : Clock M T t ticked)
+    (fs : TaskFact Ps Ds M T ws xs os ds) (fr : TaskFact Pr Dr M T wr xr or dr)
     (oks : due ticked t Ps Ds ≡ true → idle xs ≡ true) (okr : due ticked t Pr Dr ≡ true → idle xr ≡ true) where
-
   -- a delayed row's buffer when the deadlines are past
-  new-buffer : b ≡ said ws (before Ps Ds T) → cond (due ticked t Ps Ds) os b ≡ said ws (upTo Ps Ds T)
-  new-buffer h =
+  new-buffer : (b : ℕ) → b ≡ said ws (before Ps Ds T) → cond (due ticked t Ps Ds) os b ≡ said ws (upTo Ps Ds T)
+  new-buffer b h =
       byTest (due ticked t Ps Ds)
-      (λ e. rw (e, due-count Ps Ds M T t ticked zs c ws xs os ds fs oks e) (fs .at-output))
-      (λ e. rw (e, deadlines-same Ps Ds M T t ticked zs c e) h)
+      (λ e. rw (e, due-count zs c fs oks e) (fs .at-output))
+      (λ e. rw (e, deadlines-same zs c e) h)
 
-  pub delayed-ticks : DelayedFact Ps Ds Pr T ws xr b i →
+  pub delayed-ticks : {b i : ℕ} → DelayedFact Ps Ds Pr T ws xr b i →
       DelayedFact Ps Ds Pr (suc T) ws (cond (freed t Pr) phase.Waiting xr) (cond (due ticked t Ps Ds) os b)
       (cond (freed t Pr) (cond (due ticked t Ps Ds) os b) i)
-  delayed-ticks d =
-      let n = new-buffer (d .d-buffer) in
+  delayed-ticks {b = b} d =
+      let n = new-buffer b (d .d-buffer) in
       byTest (freed t Pr)
-      (λ e. rw e record { d-buffer = n; d-input = λ _. rw (latest-now Pr Dr M T t ticked zr c e) n; })
-      (λ e. rw e record { d-buffer = n; d-input = λ w. rw (latest-same Pr Dr M T t ticked zr c e) (d .d-input w); })
+      (λ e. rw e record { d-buffer = n; d-input = λ _. rw (latest-now zr c e) n })
+      (λ e. rw e record { d-buffer = n; d-input = λ w. rw (latest-same zr c e) (d .d-input w) })
 
   -- both are dispatched: the sender's job that is meant is the one now dispatched
-  together : freed t Pr ≡ true → freed t Ps ≡ true → UndelayedFact Ps Pr (suc T) ws phase.Waiting b i
-  together e h =
-      let l : latest Pr (suc T) ≡ T = latest-now Pr Dr M T t ticked zr c e in
-      let n : length ws ≡ before Ps 0 T = fs .rests (idle-at-dispatch Ps Ds M T t ticked zs c ws xs os ds fs oks h) in
-      let m : upTo Ps 0 T ≡ suc (before Ps 0 T) = jobs-more Ps Ds M T t ticked zs c h in
-      let a : T ≡ before Ps 0 T * Ps + 0 = jobs-at Ps Ds M T t ticked zs c h in
+  together : (b i : ℕ) → freed t Pr ≡ true → freed t Ps ≡ true → UndelayedFact Ps Pr (suc T) ws phase.Waiting b i
+  together b i e h =
+      let l : latest Pr (suc T) ≡ T = latest-now zr c e in
+      let n : length ws ≡ before Ps 0 T = fs .rests (idle-at-dispatch zs c fs oks h) in
+      let m : upTo Ps 0 T ≡ suc (before Ps 0 T) = jobs-more zs c h in
+      let a : T ≡ before Ps 0 T * Ps + 0 = jobs-at zs c h in
       record {
         u-buffer = rw l (λ p. absurd (omega arith));
         u-wait = rw l (λ _ _. (refl, omega (arith, ap (λ (x : ℕ). x * Ps) m)));
@@ -76,44 +76,51 @@ module _ (Ps Ds Pr Dr M T t : ℕ) (ticked : Bool) (zs : Timed Ps Ds M) (zr : Ti
       }
 
   -- the receiver alone is: the sender is the slower one, and its job stays
-  alone : (Ps ∣ Pr) ⊎ (Pr ∣ Ps) → freed t Pr ≡ true → freed t Ps ≡ false → UndelayedFact Ps Pr T ws xr b i →
+  alone : {b i : ℕ} → (Ps ∣ Pr) ⊎ (Pr ∣ Ps) → freed t Pr ≡ true → freed t Ps ≡ false → UndelayedFact Ps Pr T ws xr b i →
       UndelayedFact Ps Pr (suc T) ws phase.Waiting b i
   alone g e h u =
-      let l : latest Pr (suc T) ≡ T = latest-now Pr Dr M T t ticked zr c e in
-      let a : T ≡ before Pr 0 T * Pr + 0 = jobs-at Pr Dr M T t ticked zr c e in
+      let l : latest Pr (suc T) ≡ T = latest-now zr c e in
+      let a : T ≡ before Pr 0 T * Pr + 0 = jobs-at zr c e in
       let o : latest Pr T ≡ T - Pr = omega arith in
       let s : upTo Ps 0 (latest Pr T) ≡ upTo Ps 0 T = rw o (slower Ps Pr T (zs .period-pos) (divides g) here off) in
       record {
         u-buffer = rw (l, ← s) (u .u-buffer);
-        u-wait = rw (l, ← s) (λ _ p. absurd (true-false (sym resting ∙ u .u-wait (later Ps Ds M T t ticked zs c h) p .0)));
+        u-wait = rw (l, ← s) (λ _ p. absurd (true-false (sym resting ∙ u .u-wait (later zs c h) p .0)));
         u-input = λ p. absurd (false-true p);
       }
     where
       off : T % Ps ≡ 0 → ⊥
-      off q = freed-false Ps Ds M T t ticked zs c h (q ∙ sym (zero-mod Ps))
+      off q = freed-false zs c h (q ∙ sym (zero-mod Ps))
+
       here : T % Pr ≡ 0
-      here = freed-true Pr Dr M T t ticked zr c e ∙ zero-mod Pr
+      here = freed-true zr c e ∙ zero-mod Pr
+
       divides : (Ps ∣ Pr) ⊎ (Pr ∣ Ps) → Pr ∣ Ps
       divides (inr d) = d
       divides (inl d) = absurd (off (mod-eq-zero-of-dvd Ps (dvd-trans Ps d (dvd-of-mod-eq-zero Pr here))))
-      resting : idle xr ≡ true
-      resting = idle-at-dispatch Pr Dr M T t ticked zr c wr xr or dr fr okr e
 
-  pub undelayed-ticks : (Ps ∣ Pr) ⊎ (Pr ∣ Ps) → UndelayedFact Ps Pr T ws xr b i →
+      resting : idle xr ≡ true
+      resting = idle-at-dispatch zr c fr okr e
+
+  pub undelayed-ticks : {b i : ℕ} → (Ps ∣ Pr) ⊎ (Pr ∣ Ps) → UndelayedFact Ps Pr T ws xr b i →
       UndelayedFact Ps Pr (suc T) ws (cond (freed t Pr) phase.Waiting xr) b i
-  undelayed-ticks g u =
+  undelayed-ticks {b = b} {i = i} g u =
       byTest (freed t Pr)
-      (λ e. rw e (byTest (freed t Ps) (λ h. together e h) (λ h. alone g e h u)))
-      (λ e. rw e (let l = latest-same Pr Dr M T t ticked zr c e in record {
+      (λ e. rw e (byTest (freed t Ps) (λ h. together b i e h) (λ h. alone g e h u)))
+      (λ e. rw e (let l = latest-same zr c e in record {
         u-buffer = rw l (u .u-buffer);
-        u-wait = rw l (λ _. u .u-wait (later Pr Dr M T t ticked zr c e));
+        u-wait = rw l (λ _. u .u-wait (later zr c e));
         u-input = rw l (u .u-input);
       }))
 
 -- ---------------------------------------------------------------------------------------------------------------------------
 -- The receiver starts or ends, and the sender ends
 
-module _ (Ps Ds Pr Dr M T : ℕ) (zs : Timed Ps Ds M) (zr : Timed Pr Dr M) (ws wr : List ℕ) (xs xr : Phase) (os or ds dr b i : ℕ)
+pub delayed-receiver-ends : {Ps Ds Pr T b i : ℕ} {ws : List ℕ} {xr : Phase} → DelayedFact Ps Ds Pr T ws xr b i →
+    DelayedFact Ps Ds Pr T ws phase.Idle b i
+delayed-receiver-ends d = record { d-buffer = d .d-buffer; d-input = λ p. absurd (true-false p) }
+
+module _ {Ps Ds Pr Dr M T : ℕ} {ws wr : List ℕ} {xs xr : Phase} {os or ds dr : ℕ} (zs : Paced Ps Ds M) (zr : Paced Pr Dr M)
     (fs : TaskFact Ps Ds M T ws xs os ds) (fr : TaskFact Pr Dr M T wr xr or dr) where
   -- the jobs that a receiver at work counts are among those delivered: on an undelayed row if its sender is idle
   pub undelayed-delivered : idle xs ≡ true → idle xr ≡ false → meant Ps Pr T ≤ length ws
@@ -124,20 +131,17 @@ module _ (Ps Ds Pr Dr M T : ℕ) (zs : Timed Ps Ds M) (zr : Timed Pr Dr M) (ws w
   delayed-delivered w =
       omega (arith, fs .in-time, latest-counts Ps Ds Pr T (zs .period-pos) (zr .period-pos) (zs .deadline-le) (working fr w))
 
-  pub delayed-starts : idle xr ≡ false → DelayedFact Ps Ds Pr T ws xr b i → DelayedFact Ps Ds Pr T ws phase.Started b i
-  delayed-starts w d = record { d-buffer = d .d-buffer; d-input = λ _. d .d-input w; }
+  pub delayed-starts : {b i : ℕ} → idle xr ≡ false → DelayedFact Ps Ds Pr T ws xr b i → DelayedFact Ps Ds Pr T ws phase.Started b i
+  delayed-starts w d = record { d-buffer = d .d-buffer; d-input = λ _. d .d-input w }
 
-  pub undelayed-starts : idle xs ≡ true → idle xr ≡ false → UndelayedFact Ps Pr T ws xr b i → UndelayedFact Ps Pr T ws phase.Started b b
+  pub undelayed-starts : {b i : ℕ} → idle xs ≡ true → idle xr ≡ false → UndelayedFact Ps Pr T ws xr b i → UndelayedFact Ps Pr T ws phase.Started b b
   undelayed-starts q w u = record {
     u-buffer = u .u-buffer;
     u-wait = λ h p. (refl, u .u-wait h p .1);
     u-input = λ _. (undelayed-delivered q w, u .u-buffer (undelayed-delivered q w));
   }
 
-  pub delayed-receiver-ends : DelayedFact Ps Ds Pr T ws xr b i → DelayedFact Ps Ds Pr T ws phase.Idle b i
-  delayed-receiver-ends d = record { d-buffer = d .d-buffer; d-input = λ p. absurd (true-false p); }
-
-  pub undelayed-receiver-ends : idle xs ≡ true → idle xr ≡ false → UndelayedFact Ps Pr T ws xr b i → UndelayedFact Ps Pr T ws phase.Idle b i
+  pub undelayed-receiver-ends : {b i : ℕ} → idle xs ≡ true → idle xr ≡ false → UndelayedFact Ps Pr T ws xr b i → UndelayedFact Ps Pr T ws phase.Idle b i
   undelayed-receiver-ends q w u = record {
     u-buffer = u .u-buffer;
     u-wait = λ h p. absurd (omega (arith, undelayed-delivered q w));
@@ -145,7 +149,7 @@ module _ (Ps Ds Pr Dr M T : ℕ) (zs : Timed Ps Ds M) (zr : Timed Pr Dr M) (ws w
   }
 
   -- the sender ends with the word w: no delayed row is touched
-  pub delayed-sender-ends : (w : ℕ) → DelayedFact Ps Ds Pr T ws xr b i → DelayedFact Ps Ds Pr T (ws ++ (w ∷ [])) xr b i
+  pub delayed-sender-ends : {b i : ℕ} → (w : ℕ) → DelayedFact Ps Ds Pr T ws xr b i → DelayedFact Ps Ds Pr T (ws ++ (w ∷ [])) xr b i
   delayed-sender-ends w d = record {
     d-buffer = d .d-buffer ∙ sym (said-more ws w _ (fs .in-time));
     d-input = λ q. d .d-input q ∙ sym (said-more ws w _ (delayed-delivered q));
@@ -162,10 +166,11 @@ module _ (Ps Ds Pr Dr M T : ℕ) (zs : Timed Ps Ds M) (zr : Timed Pr Dr M) (ws w
       let ar = before-above Pr 0 T (zr .period-pos) in
       let sa = before-above Ps 0 T (zs .period-pos) in
       elim (lt-or (latest Pr T) (latest Ps T)) [
-        inl l ↦ same-mod M (latest Pr T) (latest Ps T) (omega arith) (omega arith) m
-      | inr l ↦ sym (same-mod M (latest Ps T) (latest Pr T) (omega arith) (omega arith) (sym m)) ]
+        | inl l ↦ same-mod M (latest Pr T) (latest Ps T) (omega arith) (omega arith) m
+        | inr l ↦ sym (same-mod M (latest Ps T) (latest Pr T) (omega arith) (omega arith) (sym m))
+      ]
 
-  module _ (w : ℕ) (busy : idle xs ≡ false) (u : UndelayedFact Ps Pr T ws xr b i) where
+  module _ {b i : ℕ} (w : ℕ) (busy : idle xs ≡ false) (u : UndelayedFact Ps Pr T ws xr b i) where
     own : latest Ps T ≡ length ws * Ps
     own = omega (arith, ap (λ (x : ℕ). x * Ps) (fs .works busy))
 
@@ -174,9 +179,9 @@ module _ (Ps Ds Pr Dr M T : ℕ) (zs : Timed Ps Ds M) (zr : Timed Pr Dr M) (ws w
     posted e =
         let l : latest Pr T ≡ latest Ps T = told-apart (working fs busy) e in
         let x : meant Ps Pr T ≡ suc (length ws) =
-            same-count Ps (meant Ps Pr T) (suc (length ws))
-            (omega (arith, own, upTo-within Ps 0 (latest Pr T) (zs .period-pos) (omega arith)))
-            (omega (arith, own, upTo-above Ps 0 (latest Pr T) (zs .period-pos))) in
+        same-count Ps (meant Ps Pr T) (suc (length ws))
+        (omega (arith, own, upTo-within Ps 0 (latest Pr T) (zs .period-pos) (omega arith)))
+        (omega (arith, own, upTo-above Ps 0 (latest Pr T) (zs .period-pos))) in
         let n = length-more ws w in
         record {
           u-buffer = λ _. rw x (sym (said-last ws w));
@@ -187,17 +192,20 @@ module _ (Ps Ds Pr Dr M T : ℕ) (zs : Timed Ps Ds M) (zr : Timed Pr Dr M) (ws w
     -- it has another one: the job that is meant ended before, or is yet to end
     passed : (dr ≡ ds → ⊥) → UndelayedFact Ps Pr T (ws ++ (w ∷ [])) xr b i
     passed ne = record {
-        u-buffer = λ p. elim (lt-or (length ws) (meant Ps Pr T)) [
-            inl l ↦ absurd (ne (fr .at-dispatch h ∙ ap (λ (x : ℕ). x % M) (meets l p) ∙ sym (fs .at-dispatch h)))
-          | inr l ↦ u .u-buffer l ∙ sym (said-more ws w _ l) ];
-        u-wait = λ t p. u .u-wait t (omega (arith, n));
-        u-input = λ s. (omega (arith, n, u .u-input s .0), u .u-input s .1 ∙ sym (said-more ws w _ (u .u-input s .0)));
-      }
+      u-buffer = λ p. elim (lt-or (length ws) (meant Ps Pr T)) [
+        | inl l ↦ absurd (ne (fr .at-dispatch h ∙ ap (λ (x : ℕ). x % M) (meets l p) ∙ sym (fs .at-dispatch h)))
+        | inr l ↦ u .u-buffer l ∙ sym (said-more ws w _ l)
+      ];
+      u-wait = λ t p. u .u-wait t (omega (arith, n));
+      u-input = λ s. (omega (arith, n, u .u-input s .0), u .u-input s .1 ∙ sym (said-more ws w _ (u .u-input s .0)));
+    }
       where
         h : 0 < T
         h = working fs busy
+
         n : length (ws ++ (w ∷ [])) ≡ suc (length ws)
         n = length-more ws w
+
         meets : length ws < meant Ps Pr T → meant Ps Pr T ≤ length (ws ++ (w ∷ [])) → latest Pr T ≡ latest Ps T
         meets l p =
             let x : meant Ps Pr T ≡ suc (length ws) = omega (arith, n) in

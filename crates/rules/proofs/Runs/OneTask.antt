@@ -20,7 +20,7 @@ use Rattle.rules.proofs.Sampling.{upTo-above, same-count, said-last, le
 use Rattle.rules.proofs.Runs.Jobs.{before, latest, dispatches-within, no-deadline, before-above, before-within, hit, hit-more, no-hit}
 
 -- a task's numbers
-pub record Timed (P D M : ℕ) : Type 0 where
+pub record Paced (P D M : ℕ) : Type 0 where
   pub period-pos : 0 < P
   pub deadline-pos : 0 < D
   pub deadline-le : D ≤ P
@@ -52,7 +52,7 @@ working {T = zero} f b = absurd (omega (arith, f .works b))
 working {T = suc n} f b = omega arith
 
 -- the clock tells the remainders of T
-module _ (P D M T t : ℕ) (ticked : Bool) (z : Timed P D M) (c : Clock M T t ticked) where
+module _ {P D M T t : ℕ} {ticked : Bool} (z : Paced P D M) (c : Clock M T t ticked) where
   cycle-mod : t % P ≡ T % P
   cycle-mod = rw (c .at-cycle) (mod-mod-of-dvd P T (z .divides))
 
@@ -98,7 +98,7 @@ module _ (P D M T t : ℕ) (ticked : Bool) (z : Timed P D M) (c : Clock M T t ti
   deadlines-same e = no-deadline P D T (z .period-pos) (z .deadline-pos) (z .deadline-le) (due-false e)
 
   -- a task that is not late at its deadline: then it is not late when the tick is over
-  module _ (ws : List ℕ) (x : Phase) (o d : ℕ) (f : TaskFact P D M T ws x o d) (ok : due ticked t P D ≡ true → idle x ≡ true) where
+  module _ {ws : List ℕ} {x : Phase} {o d : ℕ} (f : TaskFact P D M T ws x o d) (ok : due ticked t P D ≡ true → idle x ≡ true) where
     -- at its deadline its last job is finished
     pub due-count : due ticked t P D ≡ true → upTo P D T ≡ length ws
     due-count e =
