@@ -13,7 +13,7 @@ use Rattle.rules.specs.declared.Answer.the-variants as answer
 use Rattle.rules.specs.Views.{sender}
 use Rattle.rules.specs.Plan.{Judges}
 use Rattle.rules.specs.Answers.{Told, answerSays, StepIs}
-use Rattle.rules.specs.Fresh.{FreshIs, freshState, startOf}
+use Rattle.rules.specs.Fresh.{FreshIs, startOf}
 use Rattle.rules.proofs.Runs.Start.{fresh-planned}
 use Rattle.rules.proofs.Runs.Invariant.{Planned, start-laid}
 use Rattle.rules.proofs.Runs.Reads.{order-kept, numbered}

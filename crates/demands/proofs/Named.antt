@@ -1,14 +1,14 @@
 -- The count of the sampling rule names the last job in view: it is one more than that job's number, and 0 where no job is in view.
-use mathlib.Core.Path.{_≡_, refl, sym, _∙_, ap, subst}
-use mathlib.Core.Bool.{Bool, true, false, cond}
+use mathlib.Core.Path.{_≡_, _∙_, ap}
+use mathlib.Core.Bool.{cond}
 use mathlib.Core.List.{List}
-use Prim.Native.Nat.{ℕ, suc, _*_, _≤_, _<_}
+use Prim.Native.Nat.{ℕ, suc, _≤_, _<_}
 use mathlib.Core.Logic.{⊎-elim}
 use native.Mathlib.Omega.{arith}
-use lib.ListN.{getD, length}
+use lib.ListN.{length}
 use Rattle.rules.specs.declared.State.{State}
 use Rattle.rules.specs.Views.{period, deadline, sender, undelayed}
-use Rattle.rules.specs.Sampling.{upTo, said}
+use Rattle.rules.specs.Sampling.{said}
 use Rattle.rules.specs.Runs.{counted}
 use Rattle.rules.proofs.Tests.{lt-or}
 use Rattle.rules.proofs.Sampling.{upTo-counts, upTo-counted, none-upTo}

@@ -31,7 +31,7 @@ pub record Named (s : State) (c r : ℕ) (ws : List ℕ) (v : ℕ) : Type 0 wher
 pub record Demand (s : State) : Type 0 where
   -- "While a task runs, no task that sends to it undelayed has an unfinished job."
   pub order-kept : OrderKept s
-  -- job k of a task is the one dispatched at tick k periods, and it is started before the next one
+  -- a started job of number k is the one dispatched at tick k periods, its task's latest dispatch
   pub numbered : Numbered s
   -- "Each word a started job has read is the one that 01's sampling rule names from dispatch ticks and deadlines, with execution times
   -- nowhere in the rule": in 01's words, and by the count of the sender's jobs

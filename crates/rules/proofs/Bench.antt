@@ -2,9 +2,10 @@
 -- must answer to them, and what runs of calls from the fresh start of that plan show.
 use mathlib.Core.Path.{_≡_, ap}
 use mathlib.Core.Bool.{Bool, true, false}
-use mathlib.Core.List.{List}
-use Prim.Native.Nat.{ℕ, suc, _*_, _<_}
-use lib.ListN.{length}
+use mathlib.Core.List.{List, [], _∷_, _++_}
+use Prim.Native.Nat.{ℕ, suc, _-_, _*_, _<_}
+use lib.ListN.{length, replicate}
+use Rattle.rules.specs.Sizes.{mostTasks}
 use Rattle.rules.specs.Answers.{Told, answerSays}
 use Rattle.rules.specs.Plan.{PlanIs}
 use Rattle.rules.specs.Views.{period, sender, receiver, started, phaseOf, input}
@@ -12,11 +13,12 @@ use Rattle.rules.specs.Steps.{falls}
 use Rattle.rules.specs.Calls.{tickOf}
 use Rattle.rules.specs.Fresh.{freshState}
 use Rattle.rules.specs.Sampling.{said}
-use Rattle.rules.specs.Runs.{Call, Moment, start, after, counted, JobAt}
+use Rattle.rules.specs.Runs.{Call, Call.tick, Moment, start, after, counted, JobAt}
 use Rattle.rules.specs.declared.State.{State}
 use Rattle.rules.specs.declared.Plan.{Plan}
 use Rattle.rules.specs.declared.Answer.{Answer}
-use Rattle.rules.proofs.Deciding.{Decision, restated, both, where-so, all, every, equal, lt, tested, Each}
+use Rattle.rules.specs.declared.Verdict.the-variants as verdict
+use Rattle.rules.proofs.Deciding.{Decision, restated, both, where-so, all, some, every, equal, lt, tested, Each}
 use Rattle.rules.proofs.DecidingPlans.{planIs}
 
 -- ---------------------------------------------------------------------------------------------------------------------------
@@ -27,6 +29,7 @@ use Rattle.rules.proofs.DecidingPlans.{planIs}
 pub record Reads (s : State) (m : Moment) (r i k n w : ℕ) : Type 0 where
   pub latest : m .ticks ≡ suc r
   pub dispatched-then : k * period s i ≡ r
+  pub some-row : (c : ℕ) × (c < s .rows) × (receiver s c ≡ i)
   pub job : JobAt s m i k (λ c. w)
   pub by-rule : (c : ℕ) → c < s .rows → receiver s c ≡ i → (counted s c r ≡ n) × (said (m .words (sender s c)) n ≡ w)
 
@@ -64,6 +67,56 @@ abbrev pub Holds : Case → Type 0
 Holds m = PlanIs (m .tasks) (m .connections) (m .plan) × Each (Ran (freshState (m .tasks) (m .connections) (m .plan))) (m .runs)
 
 -- ---------------------------------------------------------------------------------------------------------------------------
+-- Words for tables, plans and calls
+
+-- "Values left out: period 10, deadline the period, compute 1, criticality 0, flag 0."
+abbrev pub task : ℕ → ℕ → ℕ → ℕ → List ℕ
+task period deadline criticality flag = period ∷ deadline ∷ 1 ∷ criticality ∷ flag ∷ []
+
+abbrev pub plain : List ℕ
+plain = task 10 10 0 0
+
+abbrev pub periodic : ℕ → List ℕ
+periodic period = task period period 0 0
+
+abbrev pub undelayed : ℕ → ℕ → List ℕ
+undelayed sender receiver = sender ∷ receiver ∷ 1 ∷ []
+
+abbrev pub delayed : ℕ → ℕ → List ℕ
+delayed sender receiver = sender ∷ receiver ∷ 0 ∷ []
+
+-- "with zeros past the last task"
+abbrev padded : List ℕ → List ℕ
+padded xs = xs ++ replicate (mostTasks - length xs) 0
+
+abbrev pub accepted : List ℕ → List ℕ → List ℕ → ℕ → Plan
+accepted order deadlines criticalities multiple = record {
+  verdict = verdict.Accepted;
+  order = padded order;
+  deadlines = padded deadlines;
+  criticalities = padded criticalities;
+  multiple = multiple;
+}
+
+abbrev pub refused : ℕ → ℕ → Plan
+refused number place = record {
+  verdict = verdict.Refused number place;
+  order = padded [];
+  deadlines = padded [];
+  criticalities = padded [];
+  multiple = 0;
+}
+
+abbrev pub ticks : ℕ → List Call
+ticks n = replicate n tick
+
+abbrev pub case : List ℕ → List ℕ → Plan → List Run → Case
+case tasks connections plan runs = record { tasks = tasks; connections = connections; plan = plan; runs = runs }
+
+abbrev pub after-calls : List Call → Fact → Run
+after-calls cs f = record { calls = cs; fact = f }
+
+-- ---------------------------------------------------------------------------------------------------------------------------
 -- Deciding it
 
 abbrev toldAs : (t u : Told) → Decision (t ≡ u)
@@ -86,12 +139,13 @@ jobAt s m i k x =
 abbrev readsIs : (s : State) (m : Moment) (r i k n w : ℕ) → Decision (Reads s m r i k n w)
 readsIs s m r i k n w =
     restated
-    (λ x. record { latest = x .0; dispatched-then = x .1 .0; job = x .1 .1 .0; by-rule = x .1 .1 .1 })
-    (λ x. (x .latest, (x .dispatched-then, (x .job, x .by-rule))))
+    (λ x. record { latest = x .0; dispatched-then = x .1 .0; some-row = x .1 .1 .0; job = x .1 .1 .1 .0; by-rule = x .1 .1 .1 .1 })
+    (λ x. (x .latest, (x .dispatched-then, (x .some-row, (x .job, x .by-rule)))))
     (both (equal (m .ticks) (suc r))
     (both (equal (k * period s i) r)
+    (both (some (s .rows) (λ c. equal (receiver s c) i))
     (both (jobAt s m i k (λ c. w))
-    (all (s .rows) (λ c. where-so (equal (receiver s c) i) (both (equal (counted s c r) n) (equal (said (m .words (sender s c)) n) w)))))))
+    (all (s .rows) (λ c. where-so (equal (receiver s c) i) (both (equal (counted s c r) n) (equal (said (m .words (sender s c)) n) w))))))))
 
 abbrev fallsIs : (m : Moment) (t i : ℕ) (so : Bool) → Decision (Falls m t i so)
 fallsIs m t i so =

@@ -3,74 +3,21 @@
 use mathlib.Core.Path.{_≡_, refl}
 use mathlib.Core.Bool.{Bool, true, false, cond}
 use mathlib.Core.List.{List, [], _∷_, _++_}
-use Prim.Native.Nat.{ℕ, suc, _-_}
+use Prim.Native.Nat.{ℕ, suc}
 use native.Mathlib.Omega.{arith}
-use lib.ListN.{length, replicate}
-use Rattle.rules.specs.Sizes.{mostTasks}
+use lib.ListN.{length}
 use Rattle.rules.specs.Range.{inRange}
 use Rattle.rules.specs.Steps.{delivered, dispatched, startedAt, chosen, advanced, ticking, endedAt, completing}
 use Rattle.rules.specs.Calls.{judged}
 use Rattle.rules.specs.Fresh.{freshState}
 use Rattle.rules.specs.Sampling.{upTo}
-use Rattle.rules.specs.Runs.{Call, Call.tick, Call.complete}
-use Rattle.rules.specs.declared.Plan.{Plan}
+use Rattle.rules.specs.Runs.{Call.tick, Call.complete}
 use Rattle.rules.specs.declared.Answer.the-variants as answer
-use Rattle.rules.specs.declared.Verdict.the-variants as verdict
-use Rattle.rules.proofs.Deciding.{Decision, Each}
-use Rattle.rules.proofs.Bench.{Fact, Fact.reads, Fact.falling, Fact.answering, Run, Case, Holds, holds}
-
--- ---------------------------------------------------------------------------------------------------------------------------
--- Words for tables, plans and calls
-
--- "Values left out: period 10, deadline the period, compute 1, criticality 0, flag 0."
-abbrev task : ℕ → ℕ → ℕ → ℕ → List ℕ
-task period deadline criticality flag = period ∷ deadline ∷ 1 ∷ criticality ∷ flag ∷ []
-
-abbrev plain : List ℕ
-plain = task 10 10 0 0
-
-abbrev periodic : ℕ → List ℕ
-periodic period = task period period 0 0
-
-abbrev pub undelayed : ℕ → ℕ → List ℕ
-undelayed sender receiver = sender ∷ receiver ∷ 1 ∷ []
-
-abbrev delayed : ℕ → ℕ → List ℕ
-delayed sender receiver = sender ∷ receiver ∷ 0 ∷ []
-
--- "with zeros past the last task"
-abbrev padded : List ℕ → List ℕ
-padded xs = xs ++ replicate (mostTasks - length xs) 0
-
-abbrev pub accepted : List ℕ → List ℕ → List ℕ → ℕ → Plan
-accepted order deadlines criticalities multiple = record {
-  verdict = verdict.Accepted;
-  order = padded order;
-  deadlines = padded deadlines;
-  criticalities = padded criticalities;
-  multiple = multiple;
-}
-
-abbrev pub refused : ℕ → ℕ → Plan
-refused number place = record {
-  verdict = verdict.Refused number place;
-  order = padded [];
-  deadlines = padded [];
-  criticalities = padded [];
-  multiple = 0;
-}
-
-abbrev pub ticks : ℕ → List Call
-ticks n = replicate n tick
+use Rattle.rules.proofs.Deciding.{Each, Each.done, Each._and_}
+use Rattle.rules.proofs.Bench.{Case, Holds, holds, Fact.reads, Fact.falling, Fact.answering, task, plain, periodic, undelayed, delayed, accepted, refused, ticks, case, after-calls}
 
 -- ---------------------------------------------------------------------------------------------------------------------------
 -- The list
-
-abbrev case : List ℕ → List ℕ → Plan → List Run → Case
-case tasks connections plan runs = record { tasks = tasks; connections = connections; plan = plan; runs = runs }
-
-abbrev after-calls : List Call → Fact → Run
-after-calls cs f = record { calls = cs; fact = f }
 
 -- the values of `reads`: the tick, the reader, its job's number, how many jobs of the sender count, and the word; of `falling`: the
 -- tick, the task, and whether its deadline falls there
@@ -123,8 +70,8 @@ one-more true h n e = (refl, omega arith)
 one-more false h n e = absurd (omega arith)
 
 all-holding : (ms : List Case) → holding ms ≡ length ms → Each Holds ms
-all-holding [] e = tt
-all-holding (m ∷ ms) e = let w = one-more (holds m .test) (holding ms) (length ms) e in (holds m .if-true (w .0), all-holding ms (w .1))
+all-holding [] e = done
+all-holding (m ∷ ms) e = let w = one-more (holds m .test) (holding ms) (length ms) e in holds m .if-true (w .0) and all-holding ms (w .1)
 
 pub all-cases : Each Holds cases
 unfolding freshState inRange judged delivered dispatched startedAt chosen advanced ticking endedAt completing upTo

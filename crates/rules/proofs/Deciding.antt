@@ -1,6 +1,6 @@
 -- Deciding statements of the rules by computation (for the cases of 01, "Numbers from the bench"): a decision of a statement is a
 -- test that computes, and what each of its values says. The statement of a whole table is decided from those of its numbers.
-use mathlib.Core.Path.{_≡_, refl, sym, _∙_}
+use mathlib.Core.Path.{_≡_, sym, _∙_}
 use mathlib.Core.Bool.{Bool, true, false, not, _&&_, _||_}
 use mathlib.Core.Logic.{_⊎_, inl, inr, ⊎-elim}
 use mathlib.Core.List.{List, [], _∷_}
@@ -110,17 +110,25 @@ module _ {P : ℕ → Type 0} where
 -- ---------------------------------------------------------------------------------------------------------------------------
 -- Statements of each member of a list
 
-abbrev pub Each {ℓ} : {A : Type ℓ} → (A → Type 0) → List A → Type 0
-Each P [] = Unit {0}
-Each P (x ∷ xs) = P x × Each P xs
+infixr 15 _and_
+pub data Each {ℓ} {A : Type ℓ} (P : A → Type 0) : List A → Type ℓ where
+  done : Each P []
+  _and_ : {x : A} {xs : List A} → P x → Each P xs → Each P (x ∷ xs)
+
+module _ {ℓ} {A : Type ℓ} {P : A → Type 0} where
+  pub first : {x : A} {xs : List A} → Each P (x ∷ xs) → P x
+  first (p and ps) = p
+
+  pub others : {x : A} {xs : List A} → Each P (x ∷ xs) → Each P xs
+  others (p and ps) = ps
 
 module _ {A : Type 0} {P : A → Type 0} where
   abbrev pub every : ((x : A) → Decision (P x)) → (xs : List A) → Decision (Each P xs)
-  every d [] = record { test = true; if-true = λ e. tt; if-false = λ e p. true-false e }
-  every d (x ∷ xs) = both (d x) (every d xs)
+  every d [] = record { test = true; if-true = λ e. done; if-false = λ e p. true-false e }
+  every d (x ∷ xs) = restated (λ w. w .0 and w .1) (λ w. (first w, others w)) (both (d x) (every d xs))
 
 module _ {ℓ} {A : Type ℓ} (P : A → Type 0) where
-  abbrev pub each-at : (xs : List A) (d : A) → Each P xs → P d → (k : ℕ) → P (getD xs k d)
-  each-at [] d w z k = z
-  each-at (x ∷ xs) d w z zero = w .0
-  each-at (x ∷ xs) d w z (suc k) = each-at xs d (w .1) z k
+  abbrev pub each-at : {xs : List A} → Each P xs → (d : A) → P d → (k : ℕ) → P (getD xs k d)
+  each-at done d z k = z
+  each-at (p and ps) d z zero = p
+  each-at (p and ps) d z (suc k) = each-at ps d z k

@@ -11,7 +11,7 @@ use lib.ListN.{getD}
 use Rattle.rules.specs.Sizes.{rowWidth}
 use Rattle.rules.specs.Tables.{rows, sender, receiver, kind}
 use Rattle.rules.specs.Chains.{Link, Chain, Reaches}
-use Rattle.rules.proofs.Tests.{byTest, lt-or, cond-true, cond-false}
+use Rattle.rules.proofs.Tests.{lt-or}
 use Rattle.rules.proofs.Chains.{Upto, upto-reached, upto-reaches}
 use Rattle.rules.proofs.Deciding.{Decision, restated, both, some, equal, lt}
 

@@ -3,25 +3,25 @@
 -- multiple within the bound shows that number 8 does not stand.
 use mathlib.Core.Path.{_≡_, refl, sym, _∙_, ap, subst}
 use mathlib.Core.Logic.{_⊎_, inl, inr, ⊎-elim}
-use mathlib.Core.List.{List, [], _∷_}
-use Prim.Native.Nat.{ℕ, zero, suc, _-_, _*_, _≤_, _<_}
+use mathlib.Core.List.{List}
+use Prim.Native.Nat.{ℕ, _-_, _*_, _≤_, _<_}
 use native.Mathlib.Omega.{arith}
 use lib.ListN.{getD, length, List·getD-eq-default}
 use Rattle.rules.specs.Sizes.{parts, mostTasks, mostMultiple}
 use Rattle.rules.specs.Tables.{count, deadline, criticality}
 use Rattle.rules.specs.Chains.{Link, Reaches, Longest, Acyclic}
-use Rattle.rules.specs.Order.{lessChain, IsDeadline, IsCriticality, Common, IsMultiple, Ahead, IsOrder}
-use Rattle.rules.specs.Refusals.{never, refusals, Bad, Sound}
+use Rattle.rules.specs.Order.{lessChain, IsDeadline, IsCriticality, IsMultiple, Ahead, IsOrder}
+use Rattle.rules.specs.Refusals.{Sound}
 use Rattle.rules.specs.Plan.{ZeroFrom, internalDeadline, internalCriticality, Accepts, Refuses, Judges, PlanIs}
 use Rattle.rules.specs.declared.Plan.{Plan}
 use Rattle.rules.specs.declared.Verdict.{Verdict}
 use Rattle.rules.specs.declared.Verdict.the-variants.{Accepted, Refused}
-use Rattle.rules.proofs.Tests.{lt-or, byTest}
+use Rattle.rules.proofs.Tests.{lt-or}
 use Rattle.rules.proofs.Chains.{chain-ends, upto-longest, longest-one}
-use Rattle.rules.proofs.Refusals.{NoneUnder, none-more, none-at-all, lengths-of, tables-of, no-circle}
+use Rattle.rules.proofs.Refusals.{none-more, none-at-all, lengths-of, tables-of, no-circle}
 use Rattle.rules.proofs.Deciding.{Decision, restated, both, either, fails, where-so, all, some, equal, le, lt}
 use Rattle.rules.proofs.DecidingChains.{named, link-named, between, between-upto, reaches}
-use Rattle.rules.proofs.DecidingRefusals.{common, NoStep, noStep, noStep-none, none-noStep, noneUnder, refusal}
+use Rattle.rules.proofs.DecidingRefusals.{common, noStep, noStep-none, none-noStep, noneUnder, refusal}
 
 -- ---------------------------------------------------------------------------------------------------------------------------
 -- Internal numbers
@@ -60,7 +60,9 @@ module _ (tw cw : List ℕ) (i : ℕ) where
   pub deadline-is : Acyclic (Link cw) → (d : ℕ) → Deadline d → IsDeadline tw cw i d
   deadline-is free d w = record {
     own = w .0;
-    all = λ j b h l. let e = between-is free j b h l in rw (e .1) (w .1 .0 j (e .0) (rw (e .1) at h));
+    all = λ j b h l.
+        let e = between-is free j b h l in
+        subst (λ (x : ℕ). d ≤ lessChain tw j x) (sym (e .1)) (w .1 .0 j (e .0) (omega (arith, e .1)));
     is = ⊎-elim inl (λ s. inr (s .0, between cw i (s .0), s .2 .0, between-longest free (s .0), s .2 .1)) (w .1 .1);
   }
 
@@ -69,7 +71,11 @@ module _ (tw cw : List ℕ) (i : ℕ) where
     w .own,
     (
       (λ j h p. w .all j (between cw i j) p (between-longest free j)),
-      ⊎-elim inl (λ s. let e = between-is free (s .0) (s .1) (s .2) (s .3) in inr (s .0, e .0, (rw (e .1) at (s .2), rw (e .1) at (s .4)))) (w .is),
+      ⊎-elim inl
+          (λ s.
+          let e = between-is free (s .0) (s .1) (s .2) (s .3) in
+          inr (s .0, e .0, (omega (arith, e .1, s .2), s .4 ∙ ap (lessChain tw (s .0)) (e .1))))
+          (w .is),
     ),
   )
 

@@ -1,20 +1,19 @@
 -- 01, "Refusals in order": each of the numbers 1 to 8 decided at a place by computation, and with them which refusal is given.
 -- A common multiple is a multiple of the first period, so those up to a bound are found by steps of it.
-use mathlib.Core.Path.{_≡_, refl, sym, _∙_, subst}
-use mathlib.Core.Bool.{true}
-use mathlib.Core.Logic.{_⊎_, inl, inr, ⊎-elim}
-use mathlib.Core.List.{List, [], _∷_}
-use Prim.Native.Nat.{ℕ, zero, suc, _+_, _*_, _/_, _%_, _≤_, _<_, _∣_}
+use mathlib.Core.Path.{_≡_, sym, subst}
+use mathlib.Core.Logic.{⊎-elim}
+use mathlib.Core.List.{List}
+use Prim.Native.Nat.{ℕ, zero, suc, _+_, _*_, _/_, _%_, _≤_, _<_}
 use native.Mathlib.Omega.{arith}
 use native.Mathlib.Nat.{div-mul-cancel, div-zero, le-div-iff-mul-le, mul-pos, pos-of-dvd-of-pos, zero-mul}
-use lib.ListN.{getD, length}
+use lib.ListN.{length}
 use Rattle.rules.specs.Sizes.{longestPeriod, leastCritical, mostMultiple, taskWidth, rowWidth, mostTaskWords, mostRowWords}
 use Rattle.rules.specs.Tables.{count, rows, period, deadline, compute, criticality, flag, sender, receiver, kind}
 use Rattle.rules.specs.Order.{Common}
 use Rattle.rules.specs.Refusals.{InSize, Joins, Uneven, Raised, never, refusals, Bad, Refusal}
 use Rattle.rules.proofs.Tests.{lt-or}
 use Rattle.rules.proofs.Refusals.{NoneUnder}
-use Rattle.rules.proofs.Deciding.{Decision, restated, both, either, fails, all, equal, le, lt, divides, nothing, Each, each-at}
+use Rattle.rules.proofs.Deciding.{Decision, restated, both, either, fails, all, equal, le, lt, divides, nothing, Each, Each.done, Each._and_, each-at}
 use Rattle.rules.proofs.DecidingChains.{reaches}
 
 -- ---------------------------------------------------------------------------------------------------------------------------
@@ -88,7 +87,7 @@ none-noStep tw k none m h w = ⊎-elim here (λ z. let e : period tw 0 ≡ 0 = o
     here : 0 < period tw 0 → ⊥
     here p = none (suc m * period tw 0) (mul-pos {m = suc m} (omega arith) p) (le-div-iff-mul-le {x = suc m} p .0 h) w
 
--- some number up to k, but 0, is a multiple of the periods of no tasks
+-- whether there is a common multiple up to k; of no periods at all, 1 is one
 abbrev noCommon : (tw : List ℕ) (k : ℕ) → 0 < k → Decision ((c : ℕ) → 0 < c → c ≤ k → Common tw c → ⊥)
 noCommon tw k some =
     restated (λ w. noStep-none tw k (w .0) (w .1))
@@ -102,37 +101,20 @@ abbrev Decided : (ℕ → Type 0) → Type 0
 Decided W = (p : ℕ) → Decision (W p)
 
 abbrev refusals-decided : (tw cw : List ℕ) → Each Decided (refusals tw cw)
-refusals-decided tw cw = (
-  λ p. nothing,
-  (
-    λ p. both (equal p 0) (either (fails (equal (length tw % taskWidth) 0)) (either (equal (length tw) 0) (lt mostTaskWords (length tw)))),
-    (
-      λ p. both (equal p 0) (either (fails (equal (length cw % rowWidth) 0)) (lt mostRowWords (length cw))),
-      (
-        λ p. both (lt p (count tw)) (fails (inSize tw p)),
-        (
-          λ p. both (lt p (rows cw)) (fails (joins tw cw p)),
-          (
-            λ p. both (lt p (rows cw)) (uneven tw cw p),
-            (
-              λ p. both (lt p (count tw)) (reaches cw p p),
-              (
-                λ p. both (lt p (rows cw)) (raised tw cw p),
-                (
-                  λ p. both (equal p 0) (noCommon tw mostMultiple (omega arith)),
-                  tt,
-                ),
-              ),
-            ),
-          ),
-        ),
-      ),
-    ),
-  ),
-)
+refusals-decided tw cw =
+    (λ p. nothing)
+    and (λ p. both (equal p 0) (either (fails (equal (length tw % taskWidth) 0)) (either (equal (length tw) 0) (lt mostTaskWords (length tw)))))
+    and (λ p. both (equal p 0) (either (fails (equal (length cw % rowWidth) 0)) (lt mostRowWords (length cw))))
+    and (λ p. both (lt p (count tw)) (fails (inSize tw p)))
+    and (λ p. both (lt p (rows cw)) (fails (joins tw cw p)))
+    and (λ p. both (lt p (rows cw)) (uneven tw cw p))
+    and (λ p. both (lt p (count tw)) (reaches cw p p))
+    and (λ p. both (lt p (rows cw)) (raised tw cw p))
+    and (λ p. both (equal p 0) (noCommon tw mostMultiple (omega arith)))
+    and done
 
 abbrev pub bad : (tw cw : List ℕ) (k p : ℕ) → Decision (Bad tw cw k p)
-bad tw cw k p = each-at Decided (refusals tw cw) never (refusals-decided tw cw) (λ q. nothing) k p
+bad tw cw k p = each-at Decided (refusals-decided tw cw) never (λ q. nothing) k p
 
 -- every place of the list is below this
 abbrev places : List ℕ → List ℕ → ℕ
@@ -141,12 +123,23 @@ places tw cw = suc (count tw + rows cw)
 abbrev Placed : List ℕ → List ℕ → (ℕ → Type 0) → Type 0
 Placed tw cw W = (p : ℕ) → W p → p < places tw cw
 
-refusals-placed : (tw cw : List ℕ) → Each (Placed tw cw) (refusals tw cw)
-refusals-placed tw cw =
-    (λ p b. absurd b, (λ p b. omega arith, (λ p b. omega arith, (λ p b. omega arith, (λ p b. omega arith, (λ p b. omega arith, (λ p b. omega arith, (λ p b. omega arith, (λ p b. omega arith, tt)))))))))
+module _ (tw cw : List ℕ) where
+  at-zero : {p : ℕ} {R : Type 0} → (p ≡ 0) × R → p < places tw cw
+  at-zero b = omega (arith, b .0)
 
-pub bad-placed : (tw cw : List ℕ) (k p : ℕ) → Bad tw cw k p → p < places tw cw
-bad-placed tw cw k p b = each-at (Placed tw cw) (refusals tw cw) never (refusals-placed tw cw) (λ q n. absurd n) k p b
+  at-task : {p : ℕ} {R : Type 0} → (p < count tw) × R → p < places tw cw
+  at-task b = omega (arith, b .0)
+
+  at-row : {p : ℕ} {R : Type 0} → (p < rows cw) × R → p < places tw cw
+  at-row b = omega (arith, b .0)
+
+  refusals-placed : Each (Placed tw cw) (refusals tw cw)
+  refusals-placed =
+      (λ p b. absurd b) and (λ p. at-zero) and (λ p. at-zero) and (λ p. at-task) and (λ p. at-row) and (λ p. at-row) and (λ p. at-task)
+      and (λ p. at-row) and (λ p. at-zero) and done
+
+  pub bad-placed : (k p : ℕ) → Bad tw cw k p → p < places tw cw
+  bad-placed k p b = each-at (Placed tw cw) refusals-placed never (λ q n. absurd n) k p b
 
 abbrev pub noneUnder : (tw cw : List ℕ) (k : ℕ) → Decision (NoneUnder tw cw k)
 noneUnder tw cw k =

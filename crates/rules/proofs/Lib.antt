@@ -22,3 +22,5 @@ pub mod DecidingRefusals
 pub mod DecidingPlans
 pub mod Bench
 pub mod Cases
+pub mod Session
+pub mod Unmarked

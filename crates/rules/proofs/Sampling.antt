@@ -1,13 +1,12 @@
 -- Laws of the sampling rule's counts (01, "The sampling rule"). First in 01's words: a count names the last job whose dispatch, plus d,
 -- is at most r. Then the same as bounds on multiples of the period, which the proofs about runs use: no division is left in them.
 use mathlib.Core.Path.{_≡_, refl, ap}
-use mathlib.Core.Bool.{Bool, true, false}
 use mathlib.Core.List.{List, [], _∷_, _++_}
 use mathlib.Core.Logic.{_⊎_, inl, inr}
-use Prim.Native.Nat.{ℕ, zero, suc, _+_, _-_, _*_, _/_, _%_, _≤_, _<_}
+use Prim.Native.Nat.{ℕ, zero, suc, _+_, _-_, _*_, _≤_, _<_}
 use native.Mathlib.Nat.{mul-le-mul-right, div-add-mod', mod-lt}
 use native.Mathlib.Omega.{arith}
-use lib.ListN.{length, getD, length-append, List·getD-append}
+use lib.ListN.{length, length-append, List·getD-append}
 use lib.Seq.{getD-append-seam}
 use lib.Dec.{ltb}
 use borrow.Author.Tests.{ltb-true, ltb-false}
@@ -36,8 +35,9 @@ module _ (P d r : ℕ) (pos : 0 < P) where
   upTo-counts j h = elim (lt-or j (upTo P d r)) [ inl l ↦ l | inr l ↦ absurd (omega (arith, upTo-above, mul-le-mul-right P l)) ]
 
   -- 01: "the sender's last job whose dispatch plus deadline is at most r" is the one before the count; "0 if there is none"
-  pub upTo-last : (k : ℕ) → upTo P d r ≡ suc k → (k * P + d ≤ r) × ((j : ℕ) → j * P + d ≤ r → j ≤ k)
-  upTo-last k e = (upTo-counted k (omega arith), λ j h. omega (arith, upTo-counts j h))
+  pub upTo-last : (k : ℕ) → upTo P d r ≡ suc k → (k * P + d ≤ r) × (r < suc k * P + d) × ((j : ℕ) → j * P + d ≤ r → j ≤ k)
+  upTo-last k e =
+      (upTo-counted k (omega arith), omega (arith, upTo-above, ap (λ (u : ℕ). u * P) e), λ j h. omega (arith, upTo-counts j h))
 
   pub upTo-none : upTo P d r ≡ 0 → (j : ℕ) → j * P + d ≤ r → ⊥
   upTo-none e j h = omega (arith, upTo-counts j h)

@@ -1,28 +1,26 @@
 -- Step 4, the choice. The running task is at work, and whoever sends to it undelayed is idle (01: the sender stands before the receiver
 -- in the order), so the words that it takes when it starts are those of the jobs that are meant. Behind the choice whoever runs is started.
 use mathlib.Core.Path.{_≡_, refl, sym, _∙_, ap}
-use mathlib.Core.Bool.{Bool, true, false, not, cond, _&&_}
+use mathlib.Core.Bool.{true, false, not}
 use mathlib.Core.List.{List}
 use Prim.Native.Nat.{ℕ, _≤_, _<_}
 use native.Mathlib.Omega.{arith}
-use lib.ListN.{length}
-use lib.Dec.{ltb, eqb}
+use lib.Dec.{eqb}
 use borrow.Author.Tests.{eqb-true, eqb-false, eq-eqb, ne-eqb, ltb-true, not-true, not-false}
 use Rattle.rules.specs.declared.Phase.{Phase}
 use Rattle.rules.specs.declared.Phase.the-variants as phase
 use Rattle.rules.specs.declared.State.{State}
-use Rattle.rules.specs.Views.{idle, waiting, started, period, deadline, sender, receiver, undelayed, ordered, phaseOf, output, dispatch, buffer, input}
-use Rattle.rules.specs.Counting.{firstOf}
+use Rattle.rules.specs.Views.{idle, waiting, started, sender, receiver, undelayed, ordered, phaseOf, buffer, input}
 use Rattle.rules.specs.Range.{names, placeOf}
 use Rattle.rules.specs.Steps.{busy, runningPlace, someRuns, running, takes, startedAt, chosen}
 use Rattle.rules.specs.Runs.{Runs}
-use Rattle.rules.proofs.Tests.{byTest, cond-by, and-left, and-right, false-true}
+use Rattle.rules.proofs.Tests.{byTest, cond-by, and-left, false-true}
 use Rattle.rules.proofs.Counting.{firstOf-hit, firstOf-before, firstOf-least, firstOf-same}
 use Rattle.rules.proofs.Steps.{startedAt-phase, startedAt-phase-other, startedAt-input, starts, chosen-state, chosen-plan, chosen-cycle, chosen-ticked}
 use Rattle.rules.proofs.Kept.{startedAt-kept}
 use Rattle.rules.proofs.Runs.OneTask.{task-starts}
-use Rattle.rules.proofs.Runs.OneRow.{DelayedFact, UndelayedFact, delayed-starts, undelayed-starts}
-use Rattle.rules.proofs.Runs.Parts.{Laid, Fits, Parts, ClockOf, laid-same, fits-kept, task-moved, delayed-moved, undelayed-moved}
+use Rattle.rules.proofs.Runs.OneRow.{delayed-starts, undelayed-starts}
+use Rattle.rules.proofs.Runs.Parts.{Laid, Parts, ClockOf, DelayedRow, UndelayedRow, ends, laid-same, fits-kept, task-moved, delayed-moved, undelayed-moved}
 
 -- ---------------------------------------------------------------------------------------------------------------------------
 -- The running task
@@ -58,41 +56,31 @@ module _ (T : ℕ) (W : ℕ → List ℕ) (s : State) (p : Parts T W s) (i : ℕ
   at-work : (j : ℕ) → j ≡ i → idle (phaseOf s j) ≡ false
   at-work j e = rw e (runner-busy s (p .laid) i run)
 
-  pub started-phase : (j : ℕ) → j ≡ i → phaseOf (startedAt s i) j ≡ phase.Started
+  started-phase : (j : ℕ) → j ≡ i → phaseOf (startedAt s i) j ≡ phase.Started
   started-phase j e = rw e (startedAt-phase s i (omega (arith, runner-in s (p .laid) i run, p .fits .tasks-fit)))
 
   module _ (c : ℕ) (h : c < s .rows) where
     input-is : input (startedAt s i) c ≡ takes s i c (input s c)
     input-is = startedAt-input s i c h (omega (arith, p .fits .inputs-fit))
 
-    si : sender s c < s .count
-    si = p .laid .sender-in c h
-
-    ri : receiver s c < s .count
-    ri = p .laid .receiver-in c h
-
     delayed-row : undelayed s c ≡ false →
-        DelayedFact (period s (sender s c)) (deadline s (sender s c)) (period s (receiver s c)) T (W (sender s c))
-        (phaseOf (startedAt s i) (receiver s c)) (buffer s c) (input (startedAt s i) c)
+        DelayedRow T W s c (phaseOf (startedAt s i) (receiver s c)) (buffer s c) (input (startedAt s i) c)
     delayed-row e =
         byTest (eqb (receiver s c) i)
         (λ q. delayed-moved refl (started-phase (receiver s c) (eqb-true _ _ q)) refl untaken
-        (delayed-starts (p .laid .paced (sender s c) si) (p .laid .paced (receiver s c) ri) (p .task-kept (sender s c) si)
-        (p .task-kept (receiver s c) ri) (at-work (receiver s c) (eqb-true _ _ q)) (p .delayed-kept c h e)))
+        (delayed-starts (at-work (receiver s c) (eqb-true _ _ q)) (p .delayed-kept c h e)))
         (λ q. delayed-moved refl (startedAt-phase-other s i (receiver s c) (eqb-false _ _ q)) refl untaken (p .delayed-kept c h e))
       where
         untaken : input (startedAt s i) c ≡ input s c
         untaken = input-is ∙ takes-delayed s i c (input s c) e
 
     undelayed-row : undelayed s c ≡ true →
-        UndelayedFact (period s (sender s c)) (period s (receiver s c)) T (W (sender s c))
-        (phaseOf (startedAt s i) (receiver s c)) (buffer s c) (input (startedAt s i) c)
+        UndelayedRow T W s c (phaseOf (startedAt s i) (receiver s c)) (buffer s c) (input (startedAt s i) c)
     undelayed-row e =
         byTest (eqb (receiver s c) i)
         (λ q. let r : receiver s c ≡ i = eqb-true _ _ q in
         undelayed-moved refl (started-phase (receiver s c) r) refl (input-is ∙ takes-mine s i c (input s c) e r)
-        (undelayed-starts (p .laid .paced (sender s c) si) (p .laid .paced (receiver s c) ri) (p .task-kept (sender s c) si)
-        (p .task-kept (receiver s c) ri) (sender-idle s (p .laid) c h e (run .0, run .1 ∙ sym r)) (at-work (receiver s c) r)
+        (undelayed-starts (ends p c h) (sender-idle s (p .laid) c h e (run .0, run .1 ∙ sym r)) (at-work (receiver s c) r)
         (p .undelayed-kept c h e)))
         (λ q. undelayed-moved refl (startedAt-phase-other s i (receiver s c) (eqb-false _ _ q)) refl
         (input-is ∙ takes-other s i c (input s c) (eqb-false _ _ q)) (p .undelayed-kept c h e))

@@ -1,25 +1,23 @@
 -- A completion ends the running task i with the word w. Its own rows: on an undelayed one the word is posted where the recorded cycles are
 -- equal; on a delayed one nothing happens. As a receiver it was at work, so its undelayed senders are idle.
-use mathlib.Core.Path.{_≡_, refl, sym, _∙_, ap}
-use mathlib.Core.Bool.{Bool, true, false, not, cond, _&&_}
+use mathlib.Core.Path.{_≡_, refl, sym, _∙_}
+use mathlib.Core.Bool.{true, false, cond}
 use mathlib.Core.List.{List, [], _∷_, _++_}
-use Prim.Native.Nat.{ℕ, _≤_, _<_}
+use Prim.Native.Nat.{ℕ, _<_}
 use native.Mathlib.Omega.{arith}
-use lib.ListN.{length}
-use lib.Dec.{ltb, eqb}
+use lib.Dec.{eqb}
 use borrow.Author.Tests.{eqb-true, eqb-false, eq-eqb, ne-eqb}
-use Rattle.rules.specs.declared.Phase.{Phase}
 use Rattle.rules.specs.declared.Phase.the-variants as phase
 use Rattle.rules.specs.declared.State.{State}
-use Rattle.rules.specs.Views.{idle, period, deadline, sender, receiver, undelayed, phaseOf, output, dispatch, buffer, input}
+use Rattle.rules.specs.Views.{idle, sender, receiver, undelayed, phaseOf, output, dispatch, buffer, input}
 use Rattle.rules.specs.Steps.{posts, endedAt}
 use Rattle.rules.specs.Runs.{Runs, spoken}
 use Rattle.rules.proofs.Tests.{byTest, true-false}
 use Rattle.rules.proofs.Steps.{endedAt-phase, endedAt-phase-other, endedAt-output, endedAt-output-other, endedAt-buffer}
 use Rattle.rules.proofs.Kept.{endedAt-kept}
 use Rattle.rules.proofs.Runs.OneTask.{task-ends}
-use Rattle.rules.proofs.Runs.OneRow.{DelayedFact, UndelayedFact, delayed-receiver-ends, undelayed-receiver-ends, delayed-sender-ends, undelayed-sender-ends}
-use Rattle.rules.proofs.Runs.Parts.{Laid, Fits, Parts, ClockOf, laid-same, fits-kept, task-moved, delayed-moved, undelayed-moved}
+use Rattle.rules.proofs.Runs.OneRow.{delayed-receiver-ends, undelayed-receiver-ends, delayed-sender-ends, undelayed-sender-ends}
+use Rattle.rules.proofs.Runs.Parts.{Parts, ClockOf, DelayedRow, UndelayedRow, ends, laid-same, fits-kept, task-moved, delayed-moved, undelayed-moved}
 use Rattle.rules.proofs.Runs.Choice.{runner-in, runner-busy, sender-idle}
 
 posts-delayed : (s : State) (i w c b : ℕ) → undelayed s c ≡ false → posts s i w c b ≡ b
@@ -55,15 +53,8 @@ module _ (T : ℕ) (W : ℕ → List ℕ) (s : State) (p : Parts T W s) (i : ℕ
     buffer-is : buffer (endedAt s i w) c ≡ posts s i w c (buffer s c)
     buffer-is = endedAt-buffer s i w c h (omega (arith, p .fits .buffers-fit))
 
-    si : sender s c < s .count
-    si = p .laid .sender-in c h
-
-    ri : receiver s c < s .count
-    ri = p .laid .receiver-in c h
-
     delayed-row : undelayed s c ≡ false →
-        DelayedFact (period s (sender s c)) (deadline s (sender s c)) (period s (receiver s c)) T (spoken W i w (sender s c))
-        (phaseOf (endedAt s i w) (receiver s c)) (buffer (endedAt s i w) c) (input s c)
+        DelayedRow T (spoken W i w) s c (phaseOf (endedAt s i w) (receiver s c)) (buffer (endedAt s i w) c) (input s c)
     delayed-row e =
         byTest (eqb (receiver s c) i)
         (λ q. delayed-moved refl (ended-phase (receiver s c) (eqb-true _ _ q)) unposted refl (delayed-receiver-ends grown))
@@ -72,33 +63,28 @@ module _ (T : ℕ) (W : ℕ → List ℕ) (s : State) (p : Parts T W s) (i : ℕ
         unposted : buffer (endedAt s i w) c ≡ buffer s c
         unposted = buffer-is ∙ posts-delayed s i w c (buffer s c) e
 
-        grown : DelayedFact (period s (sender s c)) (deadline s (sender s c)) (period s (receiver s c)) T (spoken W i w (sender s c))
-            (phaseOf s (receiver s c)) (buffer s c) (input s c)
+        grown : DelayedRow T (spoken W i w) s c (phaseOf s (receiver s c)) (buffer s c) (input s c)
         grown =
             byTest (eqb (sender s c) i)
             (λ q. delayed-moved (spoken-same W i w (sender s c) (eqb-true _ _ q)) refl refl refl
-            (delayed-sender-ends (p .laid .paced (sender s c) si) (p .laid .paced (receiver s c) ri) (p .task-kept (sender s c) si)
-            (p .task-kept (receiver s c) ri) w (p .delayed-kept c h e)))
+            (delayed-sender-ends (ends p c h) w (p .delayed-kept c h e)))
             (λ q. delayed-moved (spoken-other W i w (sender s c) (eqb-false _ _ q)) refl refl refl (p .delayed-kept c h e))
 
     undelayed-row : undelayed s c ≡ true →
-        UndelayedFact (period s (sender s c)) (period s (receiver s c)) T (spoken W i w (sender s c))
-        (phaseOf (endedAt s i w) (receiver s c)) (buffer (endedAt s i w) c) (input s c)
+        UndelayedRow T (spoken W i w) s c (phaseOf (endedAt s i w) (receiver s c)) (buffer (endedAt s i w) c) (input s c)
     undelayed-row e =
         byTest (eqb (sender s c) i)
         (λ q. let m : sender s c ≡ i = eqb-true _ _ q in
         undelayed-moved (spoken-same W i w (sender s c) m)
         (endedAt-phase-other s i w (receiver s c) (λ r. true-false (sym (quiet r) ∙ at-work (sender s c) m)))
         (buffer-is ∙ posts-mine s i w c (buffer s c) e m) refl
-        (undelayed-sender-ends (p .laid .paced (sender s c) si) (p .laid .paced (receiver s c) ri) (p .task-kept (sender s c) si)
-        (p .task-kept (receiver s c) ri) w (at-work (sender s c) m) (p .undelayed-kept c h e)))
+        (undelayed-sender-ends (ends p c h) w (at-work (sender s c) m) (p .undelayed-kept c h e)))
         (λ q. let n : sender s c ≡ i → ⊥ = eqb-false _ _ q in
         let unposted : buffer (endedAt s i w) c ≡ buffer s c = buffer-is ∙ posts-other s i w c (buffer s c) n in
         byTest (eqb (receiver s c) i)
         (λ g. let r : receiver s c ≡ i = eqb-true _ _ g in
         undelayed-moved (spoken-other W i w (sender s c) n) (ended-phase (receiver s c) r) unposted refl
-        (undelayed-receiver-ends (p .laid .paced (sender s c) si) (p .laid .paced (receiver s c) ri) (p .task-kept (sender s c) si)
-        (p .task-kept (receiver s c) ri) (quiet r) (at-work (receiver s c) r) (p .undelayed-kept c h e)))
+        (undelayed-receiver-ends (ends p c h) (quiet r) (at-work (receiver s c) r) (p .undelayed-kept c h e)))
         (λ g. undelayed-moved (spoken-other W i w (sender s c) n) (endedAt-phase-other s i w (receiver s c) (eqb-false _ _ g)) unposted refl
         (p .undelayed-kept c h e)))
       where

@@ -1,20 +1,19 @@
 -- Every moment of a run before a miss is sound: its plan is the one of the start, what a run keeps of tasks and rows holds there, the
 -- clock tells the ticks, and whoever runs is started.
-use mathlib.Core.Path.{_≡_, refl, sym, _∙_, ap, subst}
-use mathlib.Core.Bool.{Bool, true, false}
+use mathlib.Core.Path.{_≡_, refl, sym, _∙_, ap}
+use mathlib.Core.Bool.{true, false}
 use mathlib.Core.List.{List, []}
 use mathlib.Core.Logic.{_⊎_}
-use Prim.Native.Nat.{ℕ, zero, suc, _+_, _*_, _≤_, _<_, _∣_}
+use Prim.Native.Nat.{ℕ, suc, _*_, _≤_, _<_, _∣_}
 use native.Mathlib.Nat.{zero-mod}
 use native.Mathlib.Omega.{arith}
-use lib.ListN.{length}
 use lib.Dec.{ltb}
 use Rattle.rules.specs.declared.Phase.{Phase}
 use Rattle.rules.specs.declared.Phase.the-variants as phase
 use Rattle.rules.specs.declared.State.{State}
-use Rattle.rules.specs.Views.{idle, started, period, deadline, sender, receiver, undelayed, phaseOf, output, dispatch, buffer, input, moved}
+use Rattle.rules.specs.Views.{idle, started, period, deadline, sender, receiver, undelayed, phaseOf, output, dispatch, buffer, input}
 use Rattle.rules.specs.Range.{inRange, placeOf}
-use Rattle.rules.specs.Sampling.{upTo, said}
+use Rattle.rules.specs.Sampling.{upTo}
 use Rattle.rules.specs.Steps.{missing, delivered, dispatched, someRuns, running, endedAt, chosen, advanced}
 use Rattle.rules.specs.Runs.{Call, tick, complete, Moment, start, spoken, next, after, Through}
 use Rattle.rules.proofs.Tests.{true-false, false-true}
@@ -23,13 +22,12 @@ use Rattle.rules.proofs.Steps.{SamePlan, chosen-plan, advanced-plan, en
 use Rattle.rules.proofs.Kept.{plan-trans, moved-on-kept}
 use Rattle.rules.proofs.Sampling.{upTo-above}
 use Rattle.rules.proofs.Runs.Jobs.{latest}
-use Rattle.rules.proofs.Runs.OneTask.{Paced, TaskFact}
-use Rattle.rules.proofs.Runs.OneRow.{DelayedFact, UndelayedFact}
-use Rattle.rules.proofs.Runs.Parts.{Laid, Fits, Parts, ClockOf}
+use Rattle.rules.proofs.Runs.OneTask.{TaskFact}
+use Rattle.rules.proofs.Runs.Parts.{Laid, Fits, Parts, ClockOf, DelayedRow, UndelayedRow}
 use Rattle.rules.proofs.Runs.Tick.{exchanged-parts, exchanged-clock, advanced-parts, advanced-clock}
 use Rattle.rules.proofs.Runs.Choice.{Settled, runner-in, runner-busy, chosen-parts, chosen-settled, chosen-clock}
 use Rattle.rules.proofs.Runs.Completion.{ended-parts, ended-clock}
-use Rattle.rules.proofs.Runs.Moments.{missed, ticked, spoke, tick-by, word-by, to-end, through-keeps}
+use Rattle.rules.proofs.Runs.Moments.{ticked, spoke, tick-by, word-by, to-end, through-keeps}
 
 -- what an accepted fresh start gives: in range, what the planner adds to that, and all at rest
 pub record Planned (s : State) : Type 0 where
@@ -145,8 +143,7 @@ module _ (s : State) (pl : Planned s) where
     rests : idle (phaseOf s (receiver s c)) ≡ true
     rests = pl .all-idle (receiver s c) (start-laid .receiver-in c h)
 
-    start-delayed : DelayedFact (period s (sender s c)) (deadline s (sender s c)) (period s (receiver s c)) 0 [] (phaseOf s (receiver s c))
-        (buffer s c) (input s c)
+    start-delayed : DelayedRow 0 (λ _. []) s c (phaseOf s (receiver s c)) (buffer s c) (input s c)
     start-delayed = record { d-buffer = pl .no-buffer c h; d-input = λ b. absurd (true-false (sym rests ∙ b)) }
 
     -- a receiver counts a sender's first job at once
@@ -157,7 +154,7 @@ module _ (s : State) (pl : Planned s) where
         let e : upTo P 0 u ≡ 0 = omega arith in
         omega (arith, upTo-above P 0 u (start-laid .paced (sender s c) (start-laid .sender-in c h) .period-pos), ap (λ (x : ℕ). x * P) e)
 
-    start-undelayed : UndelayedFact (period s (sender s c)) (period s (receiver s c)) 0 [] (phaseOf s (receiver s c)) (buffer s c) (input s c)
+    start-undelayed : UndelayedRow 0 (λ _. []) s c (phaseOf s (receiver s c)) (buffer s c) (input s c)
     start-undelayed = record {
       u-buffer = λ l. absurd (counts l);
       u-wait = λ l _. absurd (omega arith);

@@ -1,7 +1,7 @@
 -- How many jobs of one task lie behind a moment of a run: T ticks are past, the next one is tick T. Numbers alone: a period P, an offset d
 -- (0 for dispatches, the deadline for deadlines), and what one tick more adds to a count.
 use mathlib.Core.Path.{_≡_, refl, sym, _∙_, ap}
-use mathlib.Core.Logic.{_⊎_, inl, inr, ⊎-elim}
+use mathlib.Core.Logic.{_⊎_, inl, inr}
 use Prim.Native.Nat.{ℕ, zero, suc, _+_, _-_, _*_, _/_, _%_, _≤_, _<_, _∣_}
 use native.Mathlib.Nat.{div-add-mod', mul-add-mod-self-right, mul-mod-left, mod-eq-zero-of-dvd, dvd-mul-left-of-dvd}
 use native.Mathlib.Omega.{arith}

@@ -1,18 +1,14 @@
 -- One call, by its cases: refused, it leaves the moment as it is; a tick misses or goes through its steps; a completion ends the task that
 -- runs. And a run of calls: every moment of it before a miss comes from moments before a miss.
 use mathlib.Core.Path.{_≡_, refl, sym, _∙_, ap}
-use mathlib.Core.Bool.{Bool, true, false, cond}
+use mathlib.Core.Bool.{true, false}
 use mathlib.Core.List.{List, [], _∷_}
 use Prim.Native.Nat.{ℕ, suc}
 use lib.Dec.{ltb}
-use Rattle.rules.specs.declared.State.{State}
-use Rattle.rules.specs.declared.Step.{Step}
-use Rattle.rules.specs.declared.Answer.{Answer}
-use Rattle.rules.specs.declared.Answer.the-variants as answer
 use Rattle.rules.specs.Views.{setHalted}
 use Rattle.rules.specs.Range.{inRange}
 use Rattle.rules.specs.Steps.{step, missing, delivered, dispatched, someRuns, running, endedAt, chosen, advanced, ticking, completing}
-use Rattle.rules.specs.Runs.{Call, tick, complete, Moment, refused, spoken, after-tick, after-word, next, after, Through, here, further}
+use Rattle.rules.specs.Runs.{Call, tick, complete, Moment, spoken, after-tick, after-word, next, after, Through, here, further}
 use Rattle.rules.proofs.Tests.{byTest, cond-by, true-false}
 use Rattle.rules.proofs.Calls.{judged-by, chosen-accepts}
 

@@ -1,7 +1,7 @@
 -- What a run keeps of one task, T ticks in, and that each step keeps it. No list of tasks and no state is in sight: a period P, a
 -- deadline D, the common multiple M, the words ws that the task delivered, its phase, its output and its recorded cycle.
 -- Idle, it has delivered a word for each of its dispatches; at work, for all but the last; and always for each deadline that is past.
-use mathlib.Core.Path.{_≡_, refl, sym, _∙_, ap}
+use mathlib.Core.Path.{_≡_, sym, _∙_, ap}
 use mathlib.Core.Bool.{Bool, true, false, cond, _&&_}
 use mathlib.Core.List.{List, [], _∷_, _++_}
 use mathlib.Core.Logic.{inl, inr}
@@ -62,13 +62,13 @@ module _ {P D M T t : ℕ} {ticked : Bool} (z : Paced P D M) (c : Clock M T t ti
   pub freed-false : freed t P ≡ false → T % P ≡ 0 % P → ⊥
   freed-false e q = eqb-false (t % P) 0 e (cycle-mod ∙ q ∙ zero-mod P)
 
-  due-true : due ticked t P D ≡ true → (0 < T) × (T % P ≡ D % P)
+  pub due-true : due ticked t P D ≡ true → (0 < T) × (T % P ≡ D % P)
   due-true e = (
     ltb-true 0 T (sym (c .began) ∙ and-left ticked (eqb (t % P) (D % P)) e),
     sym cycle-mod ∙ eqb-true (t % P) (D % P) (and-right ticked (eqb (t % P) (D % P)) e),
   )
 
-  due-false : due ticked t P D ≡ false → 0 < T → T % P ≡ D % P → ⊥
+  pub due-false : due ticked t P D ≡ false → 0 < T → T % P ≡ D % P → ⊥
   due-false e q h = eqb-false (t % P) (D % P) (rw (c .began, lt-ltb 0 T q) at e) (cycle-mod ∙ h)
 
   -- the number of jobs, and the latest of them, one tick on

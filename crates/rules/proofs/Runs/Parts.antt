@@ -1,6 +1,6 @@
 -- What a run keeps of a whole state, T ticks in, where W are the words that each task delivered: what its plan gives, and the facts of each
 -- task and of each row. It speaks of the state's own views; that the plan stays the one of the start is `SamePlan` of Steps.
-use mathlib.Core.Path.{_≡_, refl, subst}
+use mathlib.Core.Path.{_≡_, subst}
 use mathlib.Core.Bool.{Bool, true, false}
 use mathlib.Core.List.{List}
 use mathlib.Core.Logic.{_⊎_}
@@ -15,7 +15,7 @@ use Rattle.rules.specs.Range.{placeOf}
 use Rattle.rules.proofs.Steps.{SamePlan}
 use Rattle.rules.proofs.Kept.{Kept, plan-count, plan-rows}
 use Rattle.rules.proofs.Runs.OneTask.{Paced, TaskFact, Clock}
-use Rattle.rules.proofs.Runs.OneRow.{DelayedFact, UndelayedFact}
+use Rattle.rules.proofs.Runs.OneRow.{DelayedFact, UndelayedFact, Ends}
 
 -- the plan: the values of its tasks, its rows and its order
 pub record Laid (s : State) : Type 0 where
@@ -65,16 +65,40 @@ fits-kept s z k f =
       inputs-fit = omega (arith, k .inputs .size, f .inputs-fit);
     }
 
+-- what a run keeps of row c of the plan of s, with its receiver in phase x, b in its buffer and v in its input
+abbrev pub DelayedRow : ℕ → (ℕ → List ℕ) → State → ℕ → Phase → ℕ → ℕ → Type 0
+DelayedRow T W s c x b v =
+    DelayedFact (period s (sender s c)) (deadline s (sender s c)) (period s (receiver s c)) T (W (sender s c)) x b v
+
+abbrev pub UndelayedRow : ℕ → (ℕ → List ℕ) → State → ℕ → Phase → ℕ → ℕ → Type 0
+UndelayedRow T W s c x b v = UndelayedFact (period s (sender s c)) (period s (receiver s c)) T (W (sender s c)) x b v
+
 pub record Parts (T : ℕ) (W : ℕ → List ℕ) (s : State) : Type 0 where
   pub laid : Laid s
   pub fits : Fits s
   pub task-kept : (i : ℕ) → i < s .count →
       TaskFact (period s i) (deadline s i) (s .multiple) T (W i) (phaseOf s i) (output s i) (dispatch s i)
   pub delayed-kept : (c : ℕ) → c < s .rows → undelayed s c ≡ false →
-      DelayedFact (period s (sender s c)) (deadline s (sender s c)) (period s (receiver s c)) T (W (sender s c)) (phaseOf s (receiver s c))
-      (buffer s c) (input s c)
+      DelayedRow T W s c (phaseOf s (receiver s c)) (buffer s c) (input s c)
   pub undelayed-kept : (c : ℕ) → c < s .rows → undelayed s c ≡ true →
-      UndelayedFact (period s (sender s c)) (period s (receiver s c)) T (W (sender s c)) (phaseOf s (receiver s c)) (buffer s c) (input s c)
+      UndelayedRow T W s c (phaseOf s (receiver s c)) (buffer s c) (input s c)
+
+-- the two tasks of row c
+module _ {T : ℕ} {W : ℕ → List ℕ} {s : State} (p : Parts T W s) (c : ℕ) (h : c < s .rows) where
+  abbrev S : ℕ
+  S = sender s c
+
+  abbrev R : ℕ
+  R = receiver s c
+
+  pub ends : Ends (period s S) (deadline s S) (period s R) (deadline s R) (s .multiple) T (W S) (W R) (phaseOf s S) (phaseOf s R)
+      (output s S) (output s R) (dispatch s S) (dispatch s R)
+  ends = record {
+    sender-paced = p .laid .paced S (p .laid .sender-in c h);
+    receiver-paced = p .laid .paced R (p .laid .receiver-in c h);
+    sender-fact = p .task-kept S (p .laid .sender-in c h);
+    receiver-fact = p .task-kept R (p .laid .receiver-in c h);
+  }
 
 -- the clock of a state
 abbrev pub ClockOf : ℕ → State → Type 0

@@ -1,21 +1,20 @@
 -- At each moment of a run before a miss: the order is kept, a started job is the one of its task's latest dispatch, and what it has read
 -- is what the sampling rule names. First of a state by its own plan, then by the plan of the start.
-use mathlib.Core.Path.{_≡_, refl, sym, _∙_, ap, subst}
-use mathlib.Core.Bool.{Bool, true, false, cond}
+use mathlib.Core.Path.{_≡_, ap, subst}
+use mathlib.Core.Bool.{true, false}
 use mathlib.Core.List.{List}
 use Prim.Native.Nat.{ℕ, suc, _+_, _*_, _≤_, _<_}
 use native.Mathlib.Omega.{arith}
 use lib.ListN.{length}
 use Rattle.rules.specs.declared.Phase.{Phase}
 use Rattle.rules.specs.declared.State.{State}
-use Rattle.rules.specs.Views.{idle, started, period, deadline, sender, receiver, undelayed, phaseOf, output, dispatch, input}
-use Rattle.rules.specs.Sampling.{upTo, said}
-use Rattle.rules.specs.Runs.{Call, Moment, start, after, Through, Runs, counted, JobAt, OrderKept, Numbered}
+use Rattle.rules.specs.Views.{idle, started, period, sender, receiver, undelayed, phaseOf, input}
+use Rattle.rules.specs.Sampling.{said}
+use Rattle.rules.specs.Runs.{Moment, start, after, Runs, counted, JobAt, OrderKept, Numbered}
 use Rattle.rules.proofs.Tests.{byTest}
 use Rattle.rules.proofs.Runs.Jobs.{before, latest, before-above, dispatches-within}
-use Rattle.rules.proofs.Runs.OneTask.{TaskFact}
 use Rattle.rules.proofs.Runs.OneRow.{delayed-delivered}
-use Rattle.rules.proofs.Runs.Parts.{Laid, Parts}
+use Rattle.rules.proofs.Runs.Parts.{Laid, Parts, ends}
 use Rattle.rules.proofs.Runs.Choice.{sender-idle}
 use Rattle.rules.proofs.Runs.Invariant.{Planned, Invariant, apart, through-invariant, run-invariant}
 
@@ -28,7 +27,7 @@ abbrev Latest : ℕ → ℕ → ℕ → Type 0
 Latest P k T = (k * P < T) × (T ≤ k * P + P)
 
 -- a row reads v for a job dispatched at tick r, where ws are its sender's words: the job that is counted last has delivered v
-abbrev pub Says : State → ℕ → ℕ → List ℕ → ℕ → Type 0
+abbrev Says : State → ℕ → ℕ → List ℕ → ℕ → Type 0
 Says s c r ws v = (counted s c r ≤ length ws) × (v ≡ said ws (counted s c r))
 
 -- ---------------------------------------------------------------------------------------------------------------------------
@@ -50,9 +49,6 @@ module _ (T : ℕ) (W : ℕ → List ℕ) (s : State) (p : Parts T W s) where
     latest-here = omega (arith, ap (λ (y : ℕ). y * period s i) last-job)
 
   module _ (c : ℕ) (h : c < s .rows) (b : started (phaseOf s (receiver s c)) ≡ true) where
-    si : sender s c < s .count
-    si = p .laid .sender-in c h
-
     ri : receiver s c < s .count
     ri = p .laid .receiver-in c h
 
@@ -64,8 +60,7 @@ module _ (T : ℕ) (W : ℕ → List ℕ) (s : State) (p : Parts T W s) where
         byTest (undelayed s c)
         (λ e. rw e (p .undelayed-kept c h e .u-input b))
         (λ e. rw e (
-          delayed-delivered (p .laid .paced (sender s c) si) (p .laid .paced (receiver s c) ri) (p .task-kept (sender s c) si)
-              (p .task-kept (receiver s c) ri) busy,
+          delayed-delivered (ends p c h) busy,
           p .delayed-kept c h e .d-input busy,
         ))
 

@@ -1,13 +1,13 @@
 -- The fresh state of an accepted plan is all that the theorems about runs ask of a state: it is in range, each period divides the common
 -- multiple, the sender of an undelayed row stands before its receiver, one of their periods divides the other, and all is at rest.
-use mathlib.Core.Path.{_≡_, refl, sym, _∙_, ap, ap₂, subst}
-use mathlib.Core.Bool.{Bool, true, false}
+use mathlib.Core.Path.{_≡_, refl, sym, _∙_, ap}
+use mathlib.Core.Bool.{true, false}
 use mathlib.Core.List.{List}
 use mathlib.Core.Logic.{_⊎_, inl, inr, ⊎-elim}
 use Prim.Native.Nat.{ℕ, _%_, _≤_, _<_, _∣_}
 use native.Mathlib.Nat.{dvd-of-mod-eq-zero, mod-eq-zero-of-dvd}
 use native.Mathlib.Omega.{arith}
-use lib.ListN.{getD, length, replicate, length-replicate}
+use lib.ListN.{getD, replicate, length-replicate}
 use lib.Dec.{eqb}
 use borrow.Author.Tests.{eqb-true, eq-eqb}
 use Rattle.rules.specs.declared.Phase.the-variants as phase
@@ -16,11 +16,10 @@ use Rattle.rules.specs.declared.State.{State}
 use Rattle.rules.specs.declared.Plan.{Plan}
 use Rattle.rules.specs.Sizes.{mostTasks, mostRows, mostMultiple}
 use Rattle.rules.specs.Tables as table
-use Rattle.rules.specs.Order.{Common}
 use Rattle.rules.specs.Plan.{Accepts}
 use Rattle.rules.specs.Fresh.{freshState}
-use Rattle.rules.specs.Views.{idle, taskIn, period, deadline, compute, sender, receiver, undelayed, ordered, phaseOf, output, dispatch, buffer}
-use Rattle.rules.specs.Range.{inRange, names, placeOf}
+use Rattle.rules.specs.Views.{idle, taskIn, period, deadline, compute, sender, receiver, undelayed}
+use Rattle.rules.specs.Range.{names, placeOf}
 use Rattle.rules.proofs.Tests.{lt-or, eq-or}
 use Rattle.rules.proofs.Counting.{column-at, column-past, firstOf-least}
 use Rattle.rules.proofs.Range.{Ranged, ranged-inRange, placeOf-names}

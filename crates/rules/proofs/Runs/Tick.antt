@@ -1,26 +1,25 @@
 -- Steps 1 to 3 and 5 of a tick keep what a run keeps: which task and which row each step hits, and then the laws of one task and one row.
 use mathlib.Core.Path.{_≡_, refl, sym, _∙_, ap}
-use mathlib.Core.Bool.{Bool, true, false, not, cond, _&&_}
+use mathlib.Core.Bool.{Bool, true, false, cond}
 use mathlib.Core.List.{List}
 use mathlib.Core.Logic.{_≢_}
-use Prim.Native.Nat.{ℕ, suc, _+_, _%_, _≤_, _<_}
+use Prim.Native.Nat.{ℕ, suc, _+_, _%_, _<_}
 use native.Mathlib.Nat.{suc-mod, mod-self, mod-eq-of-lt, mod-lt}
 use native.Mathlib.Numerals.{add-one}
 use native.Mathlib.Omega.{arith}
-use lib.ListN.{length}
 use lib.Dec.{ltb, eqb}
 use borrow.Author.Tests.{eqb-true, eqb-false, ltb-false, lt-ltb, not-false}
 use Rattle.rules.specs.declared.Phase.the-variants as phase
 use Rattle.rules.specs.declared.State.{State}
 use Rattle.rules.specs.Views.{idle, period, deadline, sender, receiver, undelayed, phaseOf, output, dispatch, buffer, input}
-use Rattle.rules.specs.Steps.{falls, late, missing, delivers, delivered, released, samples, wakes, records, dispatched, advanced}
+use Rattle.rules.specs.Steps.{falls, late, missing, delivers, delivered, released, samples, dispatched, advanced}
 use Rattle.rules.proofs.Tests.{byTest}
 use Rattle.rules.proofs.Counting.{firstOf-before}
 use Rattle.rules.proofs.Steps.{delivered-buffer, dispatched-phase, dispatched-dispatch, dispatched-input}
 use Rattle.rules.proofs.Kept.{exchanged-kept, advanced-kept}
-use Rattle.rules.proofs.Runs.OneTask.{Paced, TaskFact, Clock, task-ticks}
-use Rattle.rules.proofs.Runs.OneRow.{DelayedFact, UndelayedFact, delayed-ticks, undelayed-ticks}
-use Rattle.rules.proofs.Runs.Parts.{Laid, Fits, Parts, ClockOf, laid-same, fits-kept, task-moved, delayed-moved, undelayed-moved}
+use Rattle.rules.proofs.Runs.OneTask.{Clock, due-true, due-false, task-ticks}
+use Rattle.rules.proofs.Runs.OneRow.{delayed-ticks, undelayed-ticks}
+use Rattle.rules.proofs.Runs.Parts.{Parts, ClockOf, DelayedRow, UndelayedRow, ends, laid-same, fits-kept, task-moved, delayed-moved, undelayed-moved}
 
 -- step 2 and 3 on a row of either kind
 delivers-delayed : (s : State) (c b : ℕ) → undelayed s c ≡ false → delivers s c b ≡ cond (falls s (sender s c)) (output s (sender s c)) b
@@ -34,6 +33,14 @@ samples-delayed s c x e = rw e
 
 samples-undelayed : (s : State) (c x : ℕ) → undelayed s c ≡ true → samples s c x ≡ x
 samples-undelayed s c x e = rw e
+
+-- a deadline falls at tick T, counted from the start without end, where T and the deadline leave the same remainder, and not at the first
+module _ (T : ℕ) (W : ℕ → List ℕ) (s : State) (p : Parts T W s) (k : ClockOf T s) (i : ℕ) (h : i < s .count) where
+  pub falls-true : falls s i ≡ true → (0 < T) × (T % period s i ≡ deadline s i % period s i)
+  falls-true = due-true (p .laid .paced i h) k
+
+  pub falls-false : falls s i ≡ false → 0 < T → T % period s i ≡ deadline s i % period s i → ⊥
+  falls-false = due-false (p .laid .paced i h) k
 
 module _ (T : ℕ) (W : ℕ → List ℕ) (s : State) (p : Parts T W s) (k : ClockOf T s)
     (none : ltb (missing s) (s .count) ≡ false) where
@@ -81,20 +88,16 @@ module _ (T : ℕ) (W : ℕ → List ℕ) (s : State) (p : Parts T W s) (k : Clo
     ri = p .laid .receiver-in c h
 
     delayed-row : undelayed s c ≡ false →
-        DelayedFact (period s (sender s c)) (deadline s (sender s c)) (period s (receiver s c)) (suc T) (W (sender s c))
-        (phaseOf (dispatched (delivered s)) (receiver s c)) (buffer (delivered s) c) (input (dispatched (delivered s)) c)
+        DelayedRow (suc T) W s c (phaseOf (dispatched (delivered s)) (receiver s c)) (buffer (delivered s) c) (input (dispatched (delivered s)) c)
     delayed-row e =
         delayed-moved refl (phase-is (receiver s c) ri) (delayed-buffer e) (delayed-input e)
-        (delayed-ticks (p .laid .paced (sender s c) si) (p .laid .paced (receiver s c) ri) k (p .task-kept (sender s c) si)
-        (p .task-kept (receiver s c) ri) (not-late (sender s c) si) (not-late (receiver s c) ri) (p .delayed-kept c h e))
+        (delayed-ticks (ends p c h) k (not-late (sender s c) si) (not-late (receiver s c) ri) (p .delayed-kept c h e))
 
     undelayed-row : undelayed s c ≡ true →
-        UndelayedFact (period s (sender s c)) (period s (receiver s c)) (suc T) (W (sender s c))
-        (phaseOf (dispatched (delivered s)) (receiver s c)) (buffer (delivered s) c) (input (dispatched (delivered s)) c)
+        UndelayedRow (suc T) W s c (phaseOf (dispatched (delivered s)) (receiver s c)) (buffer (delivered s) c) (input (dispatched (delivered s)) c)
     undelayed-row e =
         undelayed-moved refl (phase-is (receiver s c) ri) (buffer-is ∙ delivers-undelayed s c (buffer s c) e) (undelayed-input e)
-        (undelayed-ticks (p .laid .paced (sender s c) si) (p .laid .paced (receiver s c) ri) k (p .task-kept (sender s c) si)
-        (p .task-kept (receiver s c) ri) (not-late (sender s c) si) (not-late (receiver s c) ri) (p .laid .harmonic c h e)
+        (undelayed-ticks (ends p c h) k (not-late (sender s c) si) (not-late (receiver s c) ri) (p .laid .harmonic c h e)
         (p .undelayed-kept c h e))
 
   pub exchanged-clock : ClockOf T (dispatched (delivered s))

@@ -1,8 +1,8 @@
 -- Two runs of one plan read the same words, by induction on a job's dispatch tick and then on its task's place in the order. A row counts
 -- jobs of its sender that are smaller so: on a delayed row they were dispatched before, by a deadline at least; on an undelayed one at
 -- the same tick or before, and the sender has the earlier place. Equal words read make equal words delivered, and those are what is read.
-use mathlib.Core.Path.{_≡_, refl, sym, _∙_, ap, subst}
-use mathlib.Core.Bool.{Bool, true, false, cond}
+use mathlib.Core.Path.{_≡_, refl, sym, _∙_, ap}
+use mathlib.Core.Bool.{true, false}
 use mathlib.Core.List.{List}
 use Prim.Native.Nat.{ℕ, zero, suc, _+_, _*_, _≤_, _<_}
 use native.Mathlib.Nat.{mul-le-mul-right}
@@ -11,7 +11,7 @@ use lib.ListN.{length, getD}
 use Rattle.rules.specs.declared.State.{State}
 use Rattle.rules.specs.Views.{period, deadline, sender, receiver, undelayed}
 use Rattle.rules.specs.Range.{placeOf}
-use Rattle.rules.specs.Sampling.{upTo, said}
+use Rattle.rules.specs.Sampling.{said}
 use Rattle.rules.specs.Runs.{Call, Job, words, counted, Alike, Consistent, OrderKept, Numbered, Sampled, TwoRuns}
 use Rattle.rules.proofs.Tests.{byTest}
 use Rattle.rules.proofs.Sampling.{upTo-counted}

@@ -1,6 +1,6 @@
 -- The words of a run: what was delivered stays, and a job that delivered was started, for whoever runs is started.
-use mathlib.Core.Path.{_≡_, refl, sym, _∙_, ap, subst}
-use mathlib.Core.Bool.{Bool, true, false}
+use mathlib.Core.Path.{_≡_, refl, sym, _∙_, subst}
+use mathlib.Core.Bool.{false}
 use mathlib.Core.List.{List, [], _∷_, _++_}
 use mathlib.Core.Logic.{_⊎_, inl, inr}
 use Prim.Native.Nat.{ℕ, zero, suc, _≤_, _<_}
@@ -11,7 +11,7 @@ use borrow.Author.Tests.{eqb-true}
 use Rattle.rules.specs.declared.State.{State}
 use Rattle.rules.specs.Views.{input}
 use Rattle.rules.specs.Sampling.{said}
-use Rattle.rules.specs.Steps.{someRuns, running}
+use Rattle.rules.specs.Steps.{running}
 use Rattle.rules.specs.Runs.{Call, tick, complete, Moment, start, spoken, next, after, Through, here, further, Runs, JobAt, Job, words}
 use Rattle.rules.proofs.Tests.{byTest, cond-by, lt-or}
 use Rattle.rules.proofs.Kept.{plan-count}
