@@ -82,7 +82,7 @@ module _ {A : Type 0} where
   mapBelow-end f n i xs out a z e = let q : i ≡ n = omega arith in rw q at e
 
   -- a column holds f below n and z from there on
-  replicate-at : (places k : ℕ) (z : A) → getD (replicate places z) k z ≡ z
+  pub replicate-at : (places k : ℕ) (z : A) → getD (replicate places z) k z ≡ z
   replicate-at zero k z = refl
   replicate-at (suc m) zero z = refl
   replicate-at (suc m) (suc k) z = replicate-at m k z

@@ -32,19 +32,19 @@ pub link-named : (cw : List ℕ) (i j : ℕ) → Link cw i j → (i < named cw) 
 link-named cw i j l =
     (omega (arith, greatest-at cw (l .0 * rowWidth), l .2), omega (arith, greatest-at cw (l .0 * rowWidth + 1), l .3))
 
-abbrev pub link : (cw : List ℕ) (i j : ℕ) → Decision (Link cw i j)
+abbrev link : (cw : List ℕ) (i j : ℕ) → Decision (Link cw i j)
 link cw i j =
     restated (λ w. (w .0, w .1, w .2 .0, w .2 .1 .0, w .2 .1 .1)) (λ l. (l .0, l .1, (l .2, (l .3, l .4))))
     (some (rows cw) (λ c. both (equal (sender cw c) i) (both (equal (receiver cw c) j) (equal (kind cw c) 1))))
 
-abbrev pub chain : (cw : List ℕ) (k i j : ℕ) → Decision (Chain (Link cw) k i j)
+abbrev chain : (cw : List ℕ) (k i j : ℕ) → Decision (Chain (Link cw) k i j)
 chain cw zero i j = equal i j
 chain cw (suc k) i j =
     restated (λ w. (w .0, w .2 .0, w .2 .1)) (λ c. (c .0, link-named cw (c .0) j (c .2) .0, (c .1, c .2)))
     (some (named cw) (λ h. both (chain cw k i h) (link cw h j)))
 
 -- the longest of at most m connections
-abbrev pub longest : List ℕ → ℕ → ℕ → ℕ → ℕ
+abbrev longest : List ℕ → ℕ → ℕ → ℕ → ℕ
 longest cw zero i j = 0
 longest cw (suc m) i j = cond (chain cw (suc m) i j .test) (suc m) (longest cw m i j)
 

@@ -19,7 +19,7 @@ use Rattle.rules.proofs.DecidingChains.{reaches}
 -- ---------------------------------------------------------------------------------------------------------------------------
 -- Rows
 
-abbrev pub inSize : (tw : List ℕ) (i : ℕ) → Decision (InSize tw i)
+abbrev inSize : (tw : List ℕ) (i : ℕ) → Decision (InSize tw i)
 inSize tw i =
     restated
     (λ w. record {
@@ -38,19 +38,19 @@ inSize tw i =
     (both (both (le 1 (compute tw i)) (le (compute tw i) (deadline tw i)))
     (both (le (criticality tw i) leastCritical) (le (flag tw i) 1)))))
 
-abbrev pub joins : (tw cw : List ℕ) (c : ℕ) → Decision (Joins tw cw c)
+abbrev joins : (tw cw : List ℕ) (c : ℕ) → Decision (Joins tw cw c)
 joins tw cw c =
     restated (λ w. record { sender-task = w .0; receiver-task = w .1 .0; kind-known = w .1 .1 })
     (λ s. (s .sender-task, (s .receiver-task, s .kind-known)))
     (both (lt (sender cw c) (count tw)) (both (lt (receiver cw c) (count tw)) (le (kind cw c) 1)))
 
-abbrev pub uneven : (tw cw : List ℕ) (c : ℕ) → Decision (Uneven tw cw c)
+abbrev uneven : (tw cw : List ℕ) (c : ℕ) → Decision (Uneven tw cw c)
 uneven tw cw c =
     restated (λ w. record { undelayed = w .0; not-up = w .1 .0; not-down = w .1 .1 }) (λ s. (s .undelayed, (s .not-up, s .not-down)))
     (both (equal (kind cw c) 1)
     (both (fails (divides (period tw (sender cw c)) (period tw (receiver cw c)))) (fails (divides (period tw (receiver cw c)) (period tw (sender cw c))))))
 
-abbrev pub raised : (tw cw : List ℕ) (c : ℕ) → Decision (Raised tw cw c)
+abbrev raised : (tw cw : List ℕ) (c : ℕ) → Decision (Raised tw cw c)
 raised tw cw c =
     restated (λ w. record { undelayed = w .0; less-critical = w .1 .0; not-enforced = w .1 .1 }) (λ s. (s .undelayed, (s .less-critical, s .not-enforced)))
     (both (equal (kind cw c) 1) (both (lt (criticality tw (receiver cw c)) (criticality tw (sender cw c))) (equal (flag tw (sender cw c)) 0)))
@@ -113,7 +113,7 @@ refusals-decided tw cw =
     and (λ p. both (equal p 0) (noCommon tw mostMultiple (omega arith)))
     and done
 
-abbrev pub bad : (tw cw : List ℕ) (k p : ℕ) → Decision (Bad tw cw k p)
+abbrev bad : (tw cw : List ℕ) (k p : ℕ) → Decision (Bad tw cw k p)
 bad tw cw k p = each-at Decided (refusals-decided tw cw) never (λ q. nothing) k p
 
 -- every place of the list is below this

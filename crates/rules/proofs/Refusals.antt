@@ -120,44 +120,53 @@ module _ (tw cw : List ℕ) where
     rows-most = omega arith;
   }
 
-  module _ (sound : Sound tw cw) where
-    pub lengths-of : Lengths tw cw
-    lengths-of =
-        lengths-are
-        (eq-stable _ _ (λ ne. sound 1 0 (refl, inl ne)))
-        (⊎-elim (λ h. h) (λ z. absurd (sound 1 0 (refl, inr (inl (omega arith))))) (lt-or 0 (length tw)))
-        (⊎-elim (λ over. absurd (sound 1 0 (refl, inr (inr over)))) (λ h. h) (lt-or mostTaskWords (length tw)))
-        (eq-stable _ _ (λ ne. sound 2 0 (refl, inl ne)))
-        (⊎-elim (λ over. absurd (sound 2 0 (refl, inr over))) (λ h. h) (lt-or mostRowWords (length cw)))
+  pub lengths-under : NoneUnder tw cw 3 → Lengths tw cw
+  lengths-under none =
+      lengths-are
+      (eq-stable _ _ (λ ne. none 1 0 (omega arith) (refl, inl ne)))
+      (⊎-elim (λ h. h) (λ z. absurd (none 1 0 (omega arith) (refl, inr (inl (omega arith))))) (lt-or 0 (length tw)))
+      (⊎-elim (λ over. absurd (none 1 0 (omega arith) (refl, inr (inr over)))) (λ h. h) (lt-or mostTaskWords (length tw)))
+      (eq-stable _ _ (λ ne. none 2 0 (omega arith) (refl, inl ne)))
+      (⊎-elim (λ over. absurd (none 2 0 (omega arith) (refl, inr over))) (λ h. h) (lt-or mostRowWords (length cw)))
 
-    sizes-of : (i : ℕ) → i < count tw → InSize tw i
-    sizes-of i h = record {
-      period-low = le-stable _ _ (λ ne. sized (λ s. ne (s .period-low)));
-      period-high = le-stable _ _ (λ ne. sized (λ s. ne (s .period-high)));
-      deadline-low = le-stable _ _ (λ ne. sized (λ s. ne (s .deadline-low)));
-      deadline-high = le-stable _ _ (λ ne. sized (λ s. ne (s .deadline-high)));
-      compute-low = le-stable _ _ (λ ne. sized (λ s. ne (s .compute-low)));
-      compute-high = le-stable _ _ (λ ne. sized (λ s. ne (s .compute-high)));
-      criticality-high = le-stable _ _ (λ ne. sized (λ s. ne (s .criticality-high)));
-      flag-high = le-stable _ _ (λ ne. sized (λ s. ne (s .flag-high)));
-    }
-      where
-        sized : (InSize tw i → ⊥) → ⊥
-        sized ne = sound 3 i (h, ne)
+  sizes-of : NoneUnder tw cw 4 → (i : ℕ) → i < count tw → InSize tw i
+  sizes-of none i h = record {
+    period-low = le-stable _ _ (λ ne. sized (λ s. ne (s .period-low)));
+    period-high = le-stable _ _ (λ ne. sized (λ s. ne (s .period-high)));
+    deadline-low = le-stable _ _ (λ ne. sized (λ s. ne (s .deadline-low)));
+    deadline-high = le-stable _ _ (λ ne. sized (λ s. ne (s .deadline-high)));
+    compute-low = le-stable _ _ (λ ne. sized (λ s. ne (s .compute-low)));
+    compute-high = le-stable _ _ (λ ne. sized (λ s. ne (s .compute-high)));
+    criticality-high = le-stable _ _ (λ ne. sized (λ s. ne (s .criticality-high)));
+    flag-high = le-stable _ _ (λ ne. sized (λ s. ne (s .flag-high)));
+  }
+    where
+      sized : (InSize tw i → ⊥) → ⊥
+      sized ne = none 3 i (omega arith) (h, ne)
 
-    joins-of : (c : ℕ) → c < rows cw → Joins tw cw c
-    joins-of c h = record {
-      sender-task = le-stable _ _ (λ ne. joined (λ s. ne (s .sender-task)));
-      receiver-task = le-stable _ _ (λ ne. joined (λ s. ne (s .receiver-task)));
-      kind-known = le-stable _ _ (λ ne. joined (λ s. ne (s .kind-known)));
-    }
-      where
-        joined : (Joins tw cw c → ⊥) → ⊥
-        joined ne = sound 4 c (h, ne)
+  joins-of : NoneUnder tw cw 5 → (c : ℕ) → c < rows cw → Joins tw cw c
+  joins-of none c h = record {
+    sender-task = le-stable _ _ (λ ne. joined (λ s. ne (s .sender-task)));
+    receiver-task = le-stable _ _ (λ ne. joined (λ s. ne (s .receiver-task)));
+    kind-known = le-stable _ _ (λ ne. joined (λ s. ne (s .kind-known)));
+  }
+    where
+      joined : (Joins tw cw c → ⊥) → ⊥
+      joined ne = none 4 c (omega arith) (h, ne)
 
-    -- tables that no refusal stands against
-    pub tables-of : Tables tw cw
-    tables-of = record { lengths = lengths-of; sizes = sizes-of; joins = joins-of }
+  pub tables-under : NoneUnder tw cw 5 → Tables tw cw
+  tables-under none = record {
+    lengths = lengths-under (λ l q h. none l q (omega arith));
+    sizes = sizes-of (λ l q h. none l q (omega arith));
+    joins = joins-of none;
+  }
+
+  -- tables that no refusal stands against
+  pub lengths-of : Sound tw cw → Lengths tw cw
+  lengths-of sound = lengths-under (λ l q h. sound l q)
+
+  pub tables-of : Sound tw cw → Tables tw cw
+  tables-of sound = tables-under (λ l q h. sound l q)
 
   -- an undelayed connection joins tasks
   pub link-within : Tables tw cw → (i j : ℕ) → Link cw i j → (i < count tw) × (j < count tw)

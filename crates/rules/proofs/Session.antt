@@ -25,11 +25,11 @@ use Rattle.rules.proofs.Bench.{undelayed, accepted, ticks}
 -- The file, the tables and the plan
 
 -- "tasks (period, deadline, compute, criticality, flag) 0: 5, 5, 1, 1, 0; 1: 20, 20, 3, 1, 0; 2: 10, 10, 2, 1, 0"
-abbrev pub sessionTasks : List ℕ
+abbrev sessionTasks : List ℕ
 sessionTasks = 5 ∷ 5 ∷ 1 ∷ 1 ∷ 0 ∷ 20 ∷ 20 ∷ 3 ∷ 1 ∷ 0 ∷ 10 ∷ 10 ∷ 2 ∷ 1 ∷ 0 ∷ []
 
 -- "Undelayed rows: 0 to 1, 0 to 2, 1 to 2."
-abbrev pub sessionRows : List ℕ
+abbrev sessionRows : List ℕ
 sessionRows = undelayed 0 1 ++ undelayed 0 2 ++ undelayed 1 2
 
 -- the same as a machine file: each record behind its mark, a TK of eight bytes, a CN of three, and EN
@@ -47,7 +47,7 @@ pub session-read : (taskWords (contentsOf sessionFile) ≡ sessionTasks) × (con
 unfolding records onward itemAt marked taskRow connectionRow taskWords connectionWords
 session-read = (refl, refl)
 
-abbrev pub sessionPlan : Plan
+abbrev sessionPlan : Plan
 sessionPlan = accepted (0 ∷ 1 ∷ 2 ∷ []) (320 ∷ 639 ∷ 640 ∷ []) (1 ∷ 1 ∷ 1 ∷ []) 20
 
 pub session-planned : PlanIs sessionTasks sessionRows sessionPlan
@@ -57,20 +57,21 @@ session-planned = planIs sessionTasks sessionRows sessionPlan .if-true refl
 abbrev listed : Plan → ℕ → List ℕ
 listed r p = let i = getD (r .order) p 0 in suc p ∷ i ∷ internalDeadline r i ∷ internalCriticality r i ∷ []
 
-session-listed : listed sessionPlan 0 ∷ listed sessionPlan 1 ∷ listed sessionPlan 2 ∷ [] ≡ (1 ∷ 0 ∷ 320 ∷ 1 ∷ []) ∷ (2 ∷ 1 ∷ 639 ∷ 1 ∷ []) ∷ (3 ∷ 2 ∷ 640 ∷ 1 ∷ []) ∷ []
+pub session-listed : listed sessionPlan 0 ∷ listed sessionPlan 1 ∷ listed sessionPlan 2 ∷ [] ≡
+    (1 ∷ 0 ∷ 320 ∷ 1 ∷ []) ∷ (2 ∷ 1 ∷ 639 ∷ 1 ∷ []) ∷ (3 ∷ 2 ∷ 640 ∷ 1 ∷ []) ∷ []
 session-listed = refl
 
 -- ---------------------------------------------------------------------------------------------------------------------------
 -- The run
 
-abbrev pub session : State
+abbrev session : State
 session = freshState sessionTasks sessionRows sessionPlan
 
 -- what a call shows: its answer, and the input and the buffer words of the three rows after it
-record Line : Type 0 where
-  answer : Answer
-  inputs : List ℕ
-  buffers : List ℕ
+pub record Line : Type 0 where
+  pub answer : Answer
+  pub inputs : List ℕ
+  pub buffers : List ℕ
 
 abbrev line : Answer → List ℕ → List ℕ → Line
 line a inputs buffers = record { answer = a; inputs = inputs; buffers = buffers }
@@ -93,7 +94,7 @@ transcript s (c ∷ cs) = shown (called s c) ∷ transcript (called s c .state) 
 
 -- "Tick: 0 runs. Completions 11, 21: task 2 runs with 11 and 21. Completion 31: idle. At tick 5 task 0 completes with 12; nothing is
 -- copied. At tick 10 it completes with 13; task 2 reads 13 and 21."
-session-runs : transcript session (tick ∷ complete 11 ∷ complete 21 ∷ complete 31 ∷ ticks 5 ++ complete 12 ∷ ticks 5 ++ complete 13 ∷ []) ≡
+pub session-runs : transcript session (tick ∷ complete 11 ∷ complete 21 ∷ complete 31 ∷ ticks 5 ++ complete 12 ∷ ticks 5 ++ complete 13 ∷ []) ≡
     line (Running 0) (words 0 0 0) (words 0 0 0)
     ∷ line (Running 1) (words 11 0 0) (words 11 11 0)
     ∷ line (Running 2) (words 11 11 21) (words 11 11 21)
@@ -110,7 +111,7 @@ session-runs = refl
 
 -- "task 2 above, still waiting when tick 5 comes", reads 11 and not 12: task 1 is at work when tick 5 comes, task 0 completes with
 -- 12, and only then does task 1 resume and complete
-late-runs : transcript session (tick ∷ complete 11 ∷ ticks 5 ++ complete 12 ∷ complete 21 ∷ []) ≡
+pub late-runs : transcript session (tick ∷ complete 11 ∷ ticks 5 ++ complete 12 ∷ complete 21 ∷ []) ≡
     line (Running 0) (words 0 0 0) (words 0 0 0)
     ∷ line (Running 1) (words 11 0 0) (words 11 11 0)
     ∷ replicate 4 (line (Running 1) (words 11 0 0) (words 11 11 0))
@@ -126,7 +127,7 @@ late-runs = refl
 abbrev altered : State
 altered = let s = after (start session) (tick ∷ complete 11 ∷ ticks 5) .state in setBuffers s (replicate mostRows 99)
 
-resumed-runs : transcript altered (complete 12 ∷ complete 21 ∷ []) ≡
+pub resumed-runs : transcript altered (complete 12 ∷ complete 21 ∷ []) ≡
     line (Running 1) (words 11 0 0) (words 99 99 99) ∷ line (Running 2) (words 11 99 21) (words 99 99 21) ∷ []
 unfolding freshState inRange judged delivered dispatched startedAt chosen advanced ticking endedAt completing
 resumed-runs = refl

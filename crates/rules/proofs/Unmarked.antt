@@ -11,10 +11,10 @@ use Rattle.rules.proofs.DecidingPlans.{planIs}
 use Rattle.rules.proofs.Bench.{periodic, accepted, refused}
 
 -- "Period 10,000 accepted, 10,001 refused 3."
-longest-period : PlanIs (periodic 10000) [] (accepted (0 ∷ []) (640000 ∷ []) (0 ∷ []) 10000)
+pub longest-period : PlanIs (periodic 10000) [] (accepted (0 ∷ []) (640000 ∷ []) (0 ∷ []) 10000)
 longest-period = planIs (periodic 10000) [] (accepted (0 ∷ []) (640000 ∷ []) (0 ∷ []) 10000) .if-true refl
 
-longer-period : PlanIs (periodic 10001) [] (refused 3 0)
+pub longer-period : PlanIs (periodic 10001) [] (refused 3 0)
 longer-period = planIs (periodic 10001) [] (refused 3 0) .if-true refl
 
 -- the reader with tables of full size
@@ -22,12 +22,12 @@ abbrev read : List ℕ → Reading
 read file = readOf file mostTaskWords mostRowWords
 
 -- "Empty file: 13 at 0."
-empty-file : read [] ≡ Refused 13 0
+pub empty-file : read [] ≡ Refused 13 0
 unfolding readOf records onward itemAt readingOf
 empty-file = refl
 
 -- "One byte: 11 at 0."
-one-byte : (b : ℕ) → read (b ∷ []) ≡ Refused 11 0
+pub one-byte : (b : ℕ) → read (b ∷ []) ≡ Refused 11 0
 unfolding readOf records onward itemAt readingOf
 one-byte b = refl
 
@@ -35,10 +35,10 @@ one-byte b = refl
 abbrev endAlone : List ℕ
 endAlone = 0x45 ∷ 0x4E ∷ []
 
-end-alone : read endAlone ≡ Read 0 0
+pub end-alone : read endAlone ≡ Read 0 0
 unfolding readOf records onward itemAt marked readingOf
 end-alone = refl
 
-end-alone-planned : PlanIs (taskWords (contentsOf endAlone)) (connectionWords (contentsOf endAlone)) (refused 1 0)
+pub end-alone-planned : PlanIs (taskWords (contentsOf endAlone)) (connectionWords (contentsOf endAlone)) (refused 1 0)
 unfolding records onward itemAt marked taskWords connectionWords
 end-alone-planned = planIs [] [] (refused 1 0) .if-true refl
