@@ -1,0 +1,2 @@
+-- Line: what a line of the step program asks for.
+pub mod Line
