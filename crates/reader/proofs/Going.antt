@@ -12,14 +12,11 @@ use Rattle.rules.specs.Sizes.{mostTasks, mostRows}
 use Rattle.rules.specs.File.{Item, itemAt, contentsOf, readingOf, taskWords, connectionWords}
 use Rattle.rules.specs.declared.Reading.{Reading}
 use Rattle.rules.specs.declared.Reading.the-variants as reading
+use Rattle.rules.proofs.Parts.{sets-then}
 use Rattle.rules.proofs.File.{Sound, left, left-task, left-connection, left-end, left-refusal, sound-here}
 use Rattle.reader.specs.Read.{stored, PassIs}
 
--- words that are stored, and then more behind them
-sets-then : (ws vs l : List ℕ) (i : ℕ) → sets (sets l i ws) (i + length ws) vs ≡ sets l i (ws ++ vs)
-sets-then [] vs l i = rw (add-zero i)
-sets-then (w ∷ ws) vs l i = let e : i + suc (length ws) ≡ suc i + length ws = omega arith in rw e (sets-then ws vs (set l i w) (suc i))
-
+-- words that are stored, or not, and then more behind them
 stored-then : (b : Bool) (l : List ℕ) (i : ℕ) (ws vs : List ℕ) → stored b (stored b l i ws) (i + length ws) vs ≡ stored b l i (ws ++ vs)
 stored-then true l i ws vs = sets-then ws vs l i
 stored-then false l i ws vs = refl
