@@ -71,7 +71,7 @@ static int drive(void) {
     size_t length = fread(input, 1, sizeof input, stdin);
     if (length < 2) return 1;
     uint32_t times = 1;
-    for (int k = '0'; k < input[1] && k < '9'; k++) times *= 10;
+    for (int k = '0'; k < input[1] && k < '7'; k++) times *= 10;
     printf("%u\n", run(input[0], times, input + 2, length - 2));
     return 0;
 }
