@@ -1,15 +1,15 @@
 -- The internal numbers: the least that is worked out is at most each that it is worked out over, and is one of them; so with the
 -- square of longest chains it is what 01 asks.
 use mathlib.Core.Path.{_≡_, refl, sym, _∙_}
-use mathlib.Core.Bool.{Bool, true, false, _&&_}
+use mathlib.Core.Bool.{true, false, _&&_}
 use mathlib.Core.Logic.{_⊎_, inl, inr, ⊎-elim}
 use mathlib.Core.List.{List}
 use Prim.Native.Nat.{ℕ, zero, suc, _+_, _-_, _*_, _≤_, _<_}
 use native.Mathlib.Omega.{arith}
 use native.Mathlib.Numerals.{add-one}
 use lib.Dec.{ltb}
-use borrow.Author.Tests.{ltb-true, ltb-false, lt-ltb}
-use Rattle.rules.specs.Sizes.{mostTasks, parts}
+use borrow.Author.Tests.{ltb-true, lt-ltb}
+use Rattle.rules.specs.Sizes.{parts}
 use Rattle.rules.specs.Tables.{count, deadline, criticality}
 use Rattle.rules.specs.Chains.{Link, Chain, Acyclic, Longest}
 use Rattle.rules.specs.Order.{IsDeadline, IsCriticality}
@@ -52,7 +52,9 @@ module _ (best chain x : ℕ) where
 
 module _ (own : ℕ) (chain f : ℕ → ℕ) where
   -- a turn, and the end
-  pub least-turn : (j best b x r : ℕ) → best ≡ leastOf own chain f j → b ≡ chain j → x ≡ f j → r ≡ lower best b x → r ≡ leastOf own chain f (j + 1)
+  pub least-turn :
+      (j best b x r : ℕ) → best ≡ leastOf own chain f j → b ≡ chain j → x ≡ f j → r ≡ lower best b x
+      → r ≡ leastOf own chain f (j + 1)
   least-turn j best b x r e eb ex er = rw (add-one, er, e, eb, ex)
 
   pub least-end : (n j best : ℕ) → j ≤ n → n ≤ j → best ≡ leastOf own chain f j → best ≡ leastOf own chain f n

@@ -1,6 +1,5 @@
 -- Laws behind the proofs of the planner's functions.
 pub mod Stored
-pub mod Decided
 pub mod Tested
 pub mod Rounds
 pub mod Multiples

@@ -2,10 +2,10 @@
 -- exactly k connections, and the row has the longest chain of at most k to each task: a round marks each task to which a
 -- connection leads from a marked one, and then the row has k + 1 at the marked tasks.
 use mathlib.Core.Path.{_≡_, refl, ap, sym, _∙_, subst}
-use mathlib.Core.Bool.{Bool, true, false, cond, _&&_}
+use mathlib.Core.Bool.{Bool, true, false, _&&_}
 use mathlib.Core.Logic.{⊎-elim}
 use mathlib.Core.List.{List}
-use Prim.Native.Nat.{ℕ, zero, suc, _+_, _≤_, _<_}
+use Prim.Native.Nat.{ℕ, suc, _+_, _≤_, _<_}
 use native.Mathlib.Omega.{arith}
 use native.Mathlib.Numerals.{add-one}
 use borrow.Author.Count.{below-more}
@@ -50,7 +50,9 @@ module _ (cw : List ℕ) (marks : List Bool) where
           (λ a b. absurd (off a b));
     }
 
-    mark : c < rows cw → receiver cw c < mostTasks → Marked marks (sender cw c) → kind cw c ≡ 1 → StepSoFar cw marks (c + 1) (set next (receiver cw c) true)
+    mark :
+        c < rows cw → receiver cw c < mostTasks → Marked marks (sender cw c) → kind cw c ≡ 1
+        → StepSoFar cw marks (c + 1) (set next (receiver cw c) true)
     mark hc hr a b = record {
       long = length-set next (receiver cw c) true ∙ so .long;
       sound = λ j e. ⊎-elim (λ w. (sender cw c, a, (c, hc, refl, sym (w .0), b))) (λ w. so .sound j (sym (w .1) ∙ e))
@@ -67,7 +69,9 @@ module _ (cw : List ℕ) (marks : List Bool) where
     abbrev Test : Row → Bool
     Test r = eqb (r .kind) 1 && getD marks (r .sender) false
 
-    pub step-mark : (r : Row) → r ≡ rowOf cw c → c < rows cw → receiver cw c < mostTasks → Test r ≡ true → StepSoFar cw marks (c + 1) (set next (r .receiver) true)
+    pub step-mark :
+        (r : Row) → r ≡ rowOf cw c → c < rows cw → receiver cw c < mostTasks → Test r ≡ true
+        → StepSoFar cw marks (c + 1) (set next (r .receiver) true)
     step-mark r e hc hr t =
         let u : Test (rowOf cw c) ≡ true = rw e at t in
         rw e

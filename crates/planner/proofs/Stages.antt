@@ -1,24 +1,23 @@
 -- The stages of the planner: each number of 01's list is tested when none before it stands, so the first place where its test holds
 -- is the refusal; and where no test holds, what is worked out is 01's plan.
 use mathlib.Core.Path.{_≡_, refl, ap, sym, _∙_, subst}
-use mathlib.Core.Bool.{Bool, true, false, not, _||_}
+use mathlib.Core.Bool.{true, false}
 use mathlib.Core.Logic.{_⊎_, inl, inr, ⊎-elim}
 use mathlib.Core.List.{List}
 use Prim.Native.Nat.{ℕ, suc, _%_, _≤_, _<_}
 use native.Mathlib.Omega.{arith}
 use lib.ListN.{getD, length}
-use lib.Dec.{eqb, ltb}
 use borrow.Author.Tests.{ltb-true, lt-ltb}
-use Rattle.rules.specs.Sizes.{mostTasks, mostMultiple, taskWidth, rowWidth, mostTaskWords, mostRowWords}
+use Rattle.rules.specs.Sizes.{mostTasks, taskWidth, rowWidth, mostTaskWords, mostRowWords}
 use Rattle.rules.specs.Tables.{count, rows, sender, receiver}
 use Rattle.rules.specs.Chains.{Link, Acyclic}
 use Rattle.rules.specs.Counting.{firstOf, column}
+use Rattle.rules.specs.Order.{IsDeadline, IsCriticality}
 use Rattle.rules.specs.Refusals.{Bad, Refusal, Sound}
-use Rattle.rules.specs.Plan.{ZeroFrom, Accepts, Judges, PlanIs, internalDeadline, internalCriticality}
+use Rattle.rules.specs.Plan.{ZeroFrom, Accepts, Judges, PlanIs}
 use Rattle.rules.specs.declared.Plan.{Plan}
 use Rattle.rules.specs.declared.Verdict.{Verdict}
-use Rattle.rules.specs.declared.Verdict.the-variants.{Accepted, Refused}
-use Rattle.rules.proofs.Tests.{lt-or}
+use Rattle.rules.proofs.Deciding.{Decision, lt, equal, fails, either, restated}
 use Rattle.rules.proofs.Counting.{replicate-at, column-at, column-past, column-length}
 use Rattle.rules.proofs.Chains.{Upto, upto-reached, upto-reaches}
 use Rattle.rules.proofs.Refusals.{NoneUnder, Tables, none-more, none-under-one, none-at-all, refused-whole, first-refused, first-passed, tables-of, link-within, no-circle}
@@ -27,7 +26,6 @@ use Rattle.planner.specs.Rounds.{Named, Square, circles}
 use Rattle.planner.specs.Multiples.{Multiple}
 use Rattle.planner.specs.Internal.{between, deadlineOver, criticalityOver}
 use Rattle.planner.specs.Stages.{refusedPlan, WorkedOut}
-use Rattle.planner.proofs.Decided.{Decides, lt-decides, eq-decides, not-decides, or-decides, decides-as}
 use Rattle.planner.proofs.Tested.{Told}
 use Rattle.planner.proofs.Multiples.{multiple-right}
 use Rattle.planner.proofs.Internals.{deadline-right, criticality-right}
@@ -48,25 +46,25 @@ module _ (tw cw : List ℕ) where
       })
 
   -- by the lengths: 1 and 2
-  task-words-decide : Decides ((length tw % taskWidth ≡ 0 → ⊥) ⊎ (length tw ≡ 0) ⊎ (mostTaskWords < length tw)) (not (eqb (length tw % taskWidth) 0) || eqb (length tw) 0 || ltb mostTaskWords (length tw))
-  task-words-decide =
-      decides-as (⊎-elim (⊎-elim inl (λ x. inr (inl x))) (λ x. inr (inr x))) (⊎-elim (λ x. inl (inl x)) (⊎-elim (λ x. inl (inr x)) inr))
-      (or-decides (or-decides (not-decides (eq-decides (length tw % taskWidth) 0)) (eq-decides (length tw) 0)) (lt-decides mostTaskWords (length tw)))
+  abbrev taskWords : Decision ((length tw % taskWidth ≡ 0 → ⊥) ⊎ (length tw ≡ 0) ⊎ (mostTaskWords < length tw))
+  taskWords =
+      restated (⊎-elim (⊎-elim inl (λ x. inr (inl x))) (λ x. inr (inr x))) (⊎-elim (λ x. inl (inl x)) (⊎-elim (λ x. inl (inr x)) inr))
+      (either (either (fails (equal (length tw % taskWidth) 0)) (equal (length tw) 0)) (lt mostTaskWords (length tw)))
 
-  row-words-decide : Decides ((length cw % rowWidth ≡ 0 → ⊥) ⊎ (mostRowWords < length cw)) (not (eqb (length cw % rowWidth) 0) || ltb mostRowWords (length cw))
-  row-words-decide = or-decides (not-decides (eq-decides (length cw % rowWidth) 0)) (lt-decides mostRowWords (length cw))
+  abbrev rowWords : Decision ((length cw % rowWidth ≡ 0 → ⊥) ⊎ (mostRowWords < length cw))
+  rowWords = either (fails (equal (length cw % rowWidth) 0)) (lt mostRowWords (length cw))
 
-  pub task-words-refused : not (eqb (length tw % taskWidth) 0) || eqb (length tw) 0 || ltb mostTaskWords (length tw) ≡ true → Refusal tw cw 1 0
-  task-words-refused t = refused-whole tw cw 1 (none-under-one tw cw) (refl, task-words-decide .if-true t)
+  pub task-words-refused : taskWords .test ≡ true → Refusal tw cw 1 0
+  task-words-refused t = refused-whole tw cw 1 (none-under-one tw cw) (refl, taskWords .if-true t)
 
-  pub row-words-refused : NoneUnder tw cw 2 → not (eqb (length cw % rowWidth) 0) || ltb mostRowWords (length cw) ≡ true → Refusal tw cw 2 0
-  row-words-refused none t = refused-whole tw cw 2 none (refl, row-words-decide .if-true t)
+  pub task-words-passed : taskWords .test ≡ false → NoneUnder tw cw 2
+  task-words-passed f = none-more tw cw 1 (none-under-one tw cw) (λ q b. taskWords .if-false f (b .1))
 
-  pub task-words-passed : not (eqb (length tw % taskWidth) 0) || eqb (length tw) 0 || ltb mostTaskWords (length tw) ≡ false → NoneUnder tw cw 2
-  task-words-passed f = none-more tw cw 1 (none-under-one tw cw) (λ q b. task-words-decide .if-false f (b .1))
+  pub row-words-refused : NoneUnder tw cw 2 → rowWords .test ≡ true → Refusal tw cw 2 0
+  row-words-refused none t = refused-whole tw cw 2 none (refl, rowWords .if-true t)
 
-  pub row-words-passed : NoneUnder tw cw 2 → not (eqb (length cw % rowWidth) 0) || ltb mostRowWords (length cw) ≡ false → NoneUnder tw cw 3
-  row-words-passed none f = none-more tw cw 2 none (λ q b. row-words-decide .if-false f (b .1))
+  pub row-words-passed : NoneUnder tw cw 2 → rowWords .test ≡ false → NoneUnder tw cw 3
+  row-words-passed none f = none-more tw cw 2 none (λ q b. rowWords .if-false f (b .1))
 
   -- by a test of each place: 3, 4, 5 and 7
   module _ (number n p : ℕ) (told : Told tw cw number n) (none : NoneUnder tw cw number) (e : p ≡ firstOf (stands tw cw number) n) where
@@ -104,25 +102,28 @@ module _ (tw cw : List ℕ) where
         (omega (arith, w .sender-task), omega (arith, w .receiver-task))
 
     -- by the square: 6
-    module _ (sq : List (List ℕ)) (s : Square (Link cw) (count tw) sq) (none : NoneUnder tw cw 6) (p : ℕ) (e : p ≡ firstOf (circles sq) (count tw)) where
-      upto : (q : ℕ) → q < count tw → Upto (Link cw) (count tw) q q (between sq q q)
-      upto q h = s q h q (omega (arith, ts .lengths .tasks-most))
+    module _
+        (sq : List (List ℕ)) (s : Square (Link cw) (count tw) sq) (none : NoneUnder tw cw 6) (p : ℕ)
+        (e : p ≡ firstOf (circles sq) (count tw))
+      where
+        upto : (q : ℕ) → q < count tw → Upto (Link cw) (count tw) q q (between sq q q)
+        upto q h = s q h q (omega (arith, ts .lengths .tasks-most))
 
-      says : (q : ℕ) → Bad tw cw 6 q → (q < count tw) × (circles sq q ≡ true)
-      says q b = (
-        b .0,
-        lt-ltb 0 (between sq q q)
-            (upto-reached (Link cw) (count tw) (ts .lengths .some) (link-within tw cw ts) q q (between sq q q) (upto q (b .0)) (b .1)),
-      )
+        says : (q : ℕ) → Bad tw cw 6 q → (q < count tw) × (circles sq q ≡ true)
+        says q b = (
+          b .0,
+          lt-ltb 0 (between sq q q)
+              (upto-reached (Link cw) (count tw) (ts .lengths .some) (link-within tw cw ts) q q (between sq q q) (upto q (b .0)) (b .1)),
+        )
 
-      said : (q : ℕ) → (q < count tw) × (circles sq q ≡ true) → Bad tw cw 6 q
-      said q w = (w .0, upto-reaches (Link cw) (count tw) q q (between sq q q) (upto q (w .0)) (ltb-true 0 (between sq q q) (w .1)))
+        said : (q : ℕ) → (q < count tw) × (circles sq q ≡ true) → Bad tw cw 6 q
+        said q w = (w .0, upto-reaches (Link cw) (count tw) q q (between sq q q) (upto q (w .0)) (ltb-true 0 (between sq q q) (w .1)))
 
-      pub circle-refused : p < count tw → Refusal tw cw 6 p
-      circle-refused h = rw e (first-refused tw cw 6 (count tw) (circles sq) says said none (rw e at h))
+        pub circle-refused : p < count tw → Refusal tw cw 6 p
+        circle-refused h = rw e (first-refused tw cw 6 (count tw) (circles sq) says said none (rw e at h))
 
-      pub circle-passed : count tw ≤ p → NoneUnder tw cw 7
-      circle-passed h = first-passed tw cw 6 (count tw) (circles sq) says said none (rw e at h)
+        pub circle-passed : count tw ≤ p → NoneUnder tw cw 7
+        circle-passed h = first-passed tw cw 6 (count tw) (circles sq) says said none (rw e at h)
 
   -- by the common multiple: 8
   module _ (none : NoneUnder tw cw 8) (c : ℕ) (m : Multiple tw c) where
@@ -154,8 +155,13 @@ module _ (tw cw : List ℕ) where
       accepts : Accepts tw cw r
       accepts = record {
         sound = sound;
-        deadlines-are = λ i h. rw (← column-is (λ q. deadlineOver tw sq q (count tw)) (r .deadlines) i (w .deadlines-are) h) (deadline-right tw cw ts sq s free i h);
-        criticalities-are = λ i h. rw (← column-is (λ q. criticalityOver tw sq q (count tw)) (r .criticalities) i (w .criticalities-are) h) (criticality-right tw cw ts sq s free i h);
+        deadlines-are = λ i h.
+            subst (IsDeadline tw cw i) (column-is (λ q. deadlineOver tw sq q (count tw)) (r .deadlines) i (w .deadlines-are) h)
+            (deadline-right tw cw ts sq s free i h);
+        criticalities-are = λ i h.
+            subst (IsCriticality tw cw i)
+            (column-is (λ q. criticalityOver tw sq q (count tw)) (r .criticalities) i (w .criticalities-are) h)
+            (criticality-right tw cw ts sq s free i h);
         order-is = w .ordered .in-order;
         multiple-is = rw (w .multiple-is) (multiple-right tw c some m);
         order-past = w .ordered .past;

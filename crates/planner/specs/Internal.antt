@@ -10,6 +10,7 @@ use Rattle.rules.specs.Sizes.{parts, mostTasks}
 use Rattle.rules.specs.Tables.{count, deadline, criticality}
 use Rattle.rules.specs.Counting.{column}
 use Rattle.planner.specs.Multiples.{Sized}
+use Rattle.planner.specs.declared.internal.Numbers.{Numbers}
 use Rattle.planner.specs.declared.internal.Columns.{Columns}
 
 -- x where a chain leads to it and it is below best; else best
@@ -37,6 +38,11 @@ pub record Workable (tw : List ℕ) (sq : List (List ℕ)) : Type 0 where
   pub most : count tw ≤ mostTasks
   pub sized : Sized tw
   pub short : (i j : ℕ) → i < count tw → j < count tw → between sq i j ≤ mostTasks
+
+-- both numbers of task i
+pub record NumbersAre (tw : List ℕ) (sq : List (List ℕ)) (i : ℕ) (r : Numbers) : Type 0 where
+  pub deadline-is : r .deadline ≡ deadlineOver tw sq i (count tw)
+  pub criticality-is : r .criticality ≡ criticalityOver tw sq i (count tw)
 
 -- both numbers of each task by table position, zeros past the last
 pub record ColumnsAre (tw : List ℕ) (sq : List (List ℕ)) (r : Columns) : Type 0 where

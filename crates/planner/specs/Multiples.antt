@@ -3,7 +3,7 @@ use mathlib.Core.Path.{_≡_}
 use mathlib.Core.List.{List}
 use Prim.Native.Nat.{ℕ, _≤_, _<_, _∣_}
 use Rattle.rules.specs.Sizes.{mostMultiple}
-use Rattle.rules.specs.Tables.{count, period}
+use Rattle.rules.specs.Tables.{count}
 use Rattle.rules.specs.Order.{Common}
 use Rattle.rules.specs.Refusals.{InSize}
 

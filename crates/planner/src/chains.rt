@@ -1,8 +1,7 @@
 // The longest chain of undelayed connections between each two tasks.
 ghost use mathlib.Core.Path.{_≡_};
-ghost use mathlib.Core.Bool.{cond, false};
-ghost use Prim.Native.Nat.{ℕ, _≤_, _<_};
-ghost use lib.ListN.{getD};
+ghost use mathlib.Core.Bool.{false};
+ghost use Prim.Native.Nat.{_≤_, _<_};
 ghost use Rattle.rules.specs.Sizes.{mostTasks};
 ghost use Rattle.rules.specs.Chains.{Link};
 ghost use Rattle.rules.specs.Counting.{firstOf, mapBelow};

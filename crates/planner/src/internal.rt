@@ -2,7 +2,7 @@
 ghost use mathlib.Core.Path.{_≡_};
 ghost use Prim.Native.Nat.{_<_};
 ghost use Rattle.rules.specs.Tables.{count};
-ghost use Rattle.planner.specs.Internal.{lower, deadlineOver, criticalityOver, Workable, ColumnsAre};
+ghost use Rattle.planner.specs.Internal.{lower, Workable, NumbersAre, ColumnsAre};
 use crate::places::task_at;
 
 pub struct Numbers {
@@ -25,7 +25,7 @@ fn lower(best: u32, chain: u32, x: u32) -> u32
 // Both numbers of task i: the least of its own and those of the tasks it reaches, a deadline less the chain to it.
 fn numbers_of(tasks: &[u16], chains: &[[u8; 32]; 32], i: usize) -> Numbers
     requires { ⌜ Workable (now tasks) (now chains) × (i < count (now tasks)) ⌝ }
-    ensures { λ r. ⌜ (r .deadline ≡ deadlineOver (now (tasks .entry)) (now (chains .entry)) i (count (now (tasks .entry)))) × (r .criticality ≡ criticalityOver (now (tasks .entry)) (now (chains .entry)) i (count (now (tasks .entry)))) ⌝ }
+    ensures { λ r. ⌜ NumbersAre (now (tasks .entry)) (now (chains .entry)) i r ⌝ }
 {
     let own = task_at(tasks, i);
     let mut deadline = (own.deadline as u32) * 64;
@@ -40,9 +40,10 @@ fn numbers_of(tasks: &[u16], chains: &[[u8; 32]; 32], i: usize) -> Numbers
         criticality = c;
         j += 1;
     }
+    let least = criticality as u8;
     Numbers {
         deadline,
-        criticality: criticality as u8,
+        criticality: least,
     }
 }
 

@@ -1,5 +1,4 @@
 // The common multiple of the periods.
-ghost use mathlib.Core.Path.{_≡_};
 ghost use Prim.Native.Nat.{_≤_, _<_};
 ghost use Rattle.rules.specs.Sizes.{mostMultiple};
 ghost use Rattle.planner.specs.Multiples.{Sized, Meet, Multiple};

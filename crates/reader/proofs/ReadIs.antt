@@ -2,15 +2,19 @@
 use mathlib.Core.Path.{_≡_, refl, ap, sym, subst, _∙_}
 use mathlib.Core.Bool.{Bool, true, false, cond, _||_}
 use mathlib.Core.List.{List}
-use Prim.Native.Nat.{ℕ, _≤_, _<_}
-use lib.ListN.{length}
+use Prim.Native.Nat.{ℕ, _+_, _*_, _≤_, _<_}
+use native.Mathlib.Omega.{arith}
+use lib.ListN.{length, take, drop}
+use lib.Seq.{sets, sets-eq, length-sets, take-at}
 use lib.Dec.{ltb}
 use Rattle.rules.specs.File.{contentsOf, readingOf, taskWords, connectionWords, readOf, filled}
 use Rattle.rules.specs.declared.Reading.{Reading}
 use Rattle.rules.specs.declared.Reading.the-variants as reading
 use borrow.Author.Tests.{ltb-false}
 use Rattle.rules.proofs.Answers.{readingSays-injective}
-use Rattle.rules.proofs.Tests.{or-false}
+use Rattle.rules.specs.Refusals.{littleRoom}
+use Rattle.rules.proofs.Tests.{byTest, or-false}
+use Rattle.rules.proofs.File.{Counts, contents-counts}
 use Rattle.rules.specs.Sizes.{mostTaskWords, mostRowWords}
 use Rattle.rules.specs.Answers.{readingSays}
 use Rattle.reader.specs.Read.{asked, stored, ReadIs, PassIs}
@@ -29,9 +33,15 @@ read-refusal : (file tasks connections : List ℕ) (n p : ℕ) → asked file ta
 unfolding filled
 read-refusal file tasks connections n p e = record { told = rw e; task-table = rw e; row-table = rw e }
 
-pub read-short : (file tasks connections : List ℕ) → short tasks connections ≡ true → ReadIs file tasks connections (reading.Refused 9 0) tasks connections
+asked-short : (file tasks connections : List ℕ) → short tasks connections ≡ true → asked file tasks connections ≡ reading.Refused littleRoom 0
 unfolding readOf
-read-short file tasks connections h = read-refusal file tasks connections 9 0 (rw h)
+asked-short file tasks connections h = rw h
+
+refused-read : {n p t c : ℕ} → reading.Refused n p ≡ reading.Read t c → ⊥
+refused-read e = let z : _≡_ {A = ℕ} 0 1 = cc in omega arith
+
+pub read-short : (file tasks connections : List ℕ) → short tasks connections ≡ true → ReadIs file tasks connections (reading.Refused littleRoom 0) tasks connections
+read-short file tasks connections h = read-refusal file tasks connections littleRoom 0 (asked-short file tasks connections h)
 
 module _ (file tasks connections : List ℕ) (room : short tasks connections ≡ false) where
   asked-contents : asked file tasks connections ≡ readingOf 0 0 (contentsOf file)
@@ -56,3 +66,42 @@ module _ (file tasks connections : List ℕ) (room : short tasks connections ≡
 pub read-one : (file tasks connections : List ℕ) (r q : Reading) (t u c d : List ℕ) → ReadIs file tasks connections r t c → ReadIs file tasks connections q u d → (r ≡ q) × (t ≡ u) × (c ≡ d)
 read-one file tasks connections r q t u c d a b =
     (readingSays-injective r q (a .told ∙ sym (b .told)), a .task-table ∙ sym (b .task-table), a .row-table ∙ sym (b .row-table))
+
+-- ---------------------------------------------------------------------------------------------------------------------------
+-- what a caller learns
+
+-- a file was accepted: the words of its tasks and connections, whole rows, stand in front of the tables
+pub record Accepted (file : List ℕ) (t c : ℕ) (tasks connections : List ℕ) : Type 0 where
+  pub counts : Counts t c (taskWords (contentsOf file)) (connectionWords (contentsOf file))
+  pub task-room : t * 5 ≤ length tasks
+  pub row-room : c * 3 ≤ length connections
+  pub task-front : take (t * 5) tasks ≡ taskWords (contentsOf file)
+  pub row-front : take (c * 3) connections ≡ connectionWords (contentsOf file)
+
+front : (ws table : List ℕ) (n : ℕ) → length ws ≡ n → n ≤ length table → take n (sets table 0 ws) ≡ ws
+front ws table n e h = rw (sets-eq ws table 0 (omega arith)) (take-at ws (drop (0 + length ws) table) n e)
+
+module _ {file tasks connections tasks' connections' : List ℕ} where
+  -- the answer is the one that the rules give
+  pub read-answer : {r : Reading} → ReadIs file tasks connections r tasks' connections' → asked file tasks connections ≡ r
+  read-answer {r} h = sym (readingSays-injective r (asked file tasks connections) (h .told))
+
+  pub read-accepted-tables : {t c : ℕ} → ReadIs file tasks connections (reading.Read t c) tasks' connections' → Accepted file t c tasks' connections'
+  unfolding filled
+  read-accepted-tables {t} {c} h =
+      let e = read-answer h in
+      byTest (short tasks connections) (λ s. absurd (refused-read (sym (asked-short file tasks connections s) ∙ e)))
+      (λ s.
+      let k = contents-counts file t c (sym (asked-contents file tasks connections s) ∙ e) in
+      let room = roomy tasks connections s in
+      let f : tasks' ≡ sets tasks 0 (taskWords (contentsOf file)) = rw e at (h .task-table) in
+      let g : connections' ≡ sets connections 0 (connectionWords (contentsOf file)) = rw e at (h .row-table) in
+      let task-length : length tasks' ≡ length tasks = ap length f ∙ length-sets tasks 0 (taskWords (contentsOf file)) in
+      let row-length : length connections' ≡ length connections = ap length g ∙ length-sets connections 0 (connectionWords (contentsOf file)) in
+      record {
+        counts = k;
+        task-room = omega (arith, k .few-tasks);
+        row-room = omega (arith, k .few-rows);
+        task-front = rw f (front (taskWords (contentsOf file)) tasks (t * 5) (k .task-words) (omega (arith, k .few-tasks)));
+        row-front = rw g (front (connectionWords (contentsOf file)) connections (c * 3) (k .row-words) (omega (arith, k .few-rows)));
+      })

@@ -19,38 +19,40 @@ use Rattle.rules.proofs.DecidingChains.{reaches}
 -- ---------------------------------------------------------------------------------------------------------------------------
 -- Rows
 
-abbrev inSize : (tw : List ℕ) (i : ℕ) → Decision (InSize tw i)
+abbrev pub inSize : (tw : List ℕ) (i : ℕ) → Decision (InSize tw i)
 inSize tw i =
     restated
     (λ w. record {
-      period-low = w .0 .0;
-      period-high = w .0 .1;
-      deadline-low = w .1 .0 .0;
-      deadline-high = w .1 .0 .1;
-      compute-low = w .1 .1 .0 .0;
-      compute-high = w .1 .1 .0 .1;
-      criticality-high = w .1 .1 .1 .0;
-      flag-high = w .1 .1 .1 .1;
+      period-low = w .0 .0 .0 .0 .0 .0 .0;
+      period-high = w .0 .0 .0 .0 .0 .0 .1;
+      deadline-low = w .0 .0 .0 .0 .0 .1;
+      deadline-high = w .0 .0 .0 .0 .1;
+      compute-low = w .0 .0 .0 .1;
+      compute-high = w .0 .0 .1;
+      criticality-high = w .0 .1;
+      flag-high = w .1;
     })
-    (λ s. ((s .period-low, s .period-high), ((s .deadline-low, s .deadline-high), ((s .compute-low, s .compute-high), (s .criticality-high, s .flag-high)))))
-    (both (both (le 1 (period tw i)) (le (period tw i) longestPeriod))
-    (both (both (le 1 (deadline tw i)) (le (deadline tw i) (period tw i)))
-    (both (both (le 1 (compute tw i)) (le (compute tw i) (deadline tw i)))
-    (both (le (criticality tw i) leastCritical) (le (flag tw i) 1)))))
+    (λ s. (
+      ((((((s .period-low, s .period-high), s .deadline-low), s .deadline-high), s .compute-low), s .compute-high), s .criticality-high),
+      s .flag-high,
+    ))
+    (both (both (both (both (both (both (both
+    (le 1 (period tw i)) (le (period tw i) longestPeriod)) (le 1 (deadline tw i))) (le (deadline tw i) (period tw i)))
+    (le 1 (compute tw i))) (le (compute tw i) (deadline tw i))) (le (criticality tw i) leastCritical)) (le (flag tw i) 1))
 
-abbrev joins : (tw cw : List ℕ) (c : ℕ) → Decision (Joins tw cw c)
+abbrev pub joins : (tw cw : List ℕ) (c : ℕ) → Decision (Joins tw cw c)
 joins tw cw c =
-    restated (λ w. record { sender-task = w .0; receiver-task = w .1 .0; kind-known = w .1 .1 })
-    (λ s. (s .sender-task, (s .receiver-task, s .kind-known)))
-    (both (lt (sender cw c) (count tw)) (both (lt (receiver cw c) (count tw)) (le (kind cw c) 1)))
+    restated (λ w. record { sender-task = w .0 .0; receiver-task = w .0 .1; kind-known = w .1 })
+    (λ s. ((s .sender-task, s .receiver-task), s .kind-known))
+    (both (both (lt (sender cw c) (count tw)) (lt (receiver cw c) (count tw))) (le (kind cw c) 1))
 
-abbrev uneven : (tw cw : List ℕ) (c : ℕ) → Decision (Uneven tw cw c)
+abbrev pub uneven : (tw cw : List ℕ) (c : ℕ) → Decision (Uneven tw cw c)
 uneven tw cw c =
     restated (λ w. record { undelayed = w .0; not-up = w .1 .0; not-down = w .1 .1 }) (λ s. (s .undelayed, (s .not-up, s .not-down)))
     (both (equal (kind cw c) 1)
     (both (fails (divides (period tw (sender cw c)) (period tw (receiver cw c)))) (fails (divides (period tw (receiver cw c)) (period tw (sender cw c))))))
 
-abbrev raised : (tw cw : List ℕ) (c : ℕ) → Decision (Raised tw cw c)
+abbrev pub raised : (tw cw : List ℕ) (c : ℕ) → Decision (Raised tw cw c)
 raised tw cw c =
     restated (λ w. record { undelayed = w .0; less-critical = w .1 .0; not-enforced = w .1 .1 }) (λ s. (s .undelayed, (s .less-critical, s .not-enforced)))
     (both (equal (kind cw c) 1) (both (lt (criticality tw (receiver cw c)) (criticality tw (sender cw c))) (equal (flag tw (sender cw c)) 0)))

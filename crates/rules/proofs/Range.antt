@@ -1,7 +1,7 @@
 -- Refusal 16 as facts: what a state in range gives, and what makes a state one. An order that passes names each task once: as there
 -- are as many places as tasks and each task has one, a second place for a task would leave too few for the others (pigeonhole).
-use mathlib.Core.Path.{_≡_, ap, sym, _∙_}
-use mathlib.Core.Bool.{Bool, true, cond, _&&_}
+use mathlib.Core.Path.{_≡_, refl, ap, sym, _∙_}
+use mathlib.Core.Bool.{Bool, true, false, cond, _&&_}
 use mathlib.Core.Logic.{⊎-elim}
 use Prim.Native.Nat.{ℕ, _≤_, _<_}
 use native.Mathlib.Omega.{arith}
@@ -57,8 +57,12 @@ and-4 a b c d e =
 all-4 : (a b c d : Bool) → a ≡ true → b ≡ true → c ≡ true → d ≡ true → a && b && c && d ≡ true
 all-4 a b c d ea eb ec ed = rw (ea, eb, ec, ed)
 
+and-regroup : (a b c d : Bool) → a && b && c && d ≡ a && (b && c && d)
+and-regroup true b c d = refl
+and-regroup false b c d = refl
+
 module _ (s : State) where
-  sizes-facts : sizesFit s ≡ true → Sized s
+  pub sizes-facts : sizesFit s ≡ true → Sized s
   sizes-facts e =
       let some = leb 1 (s .count) in
       let few = leb (s .count) mostTasks in
@@ -104,6 +108,11 @@ module _ (s : State) where
 
   row-test : (c : ℕ) → Joined s c → rowFits s c ≡ true
   row-test c z = and-both _ _ (lt-ltb _ _ (z .sender-task)) (lt-ltb _ _ (z .receiver-task))
+
+  -- the sizes first, then the tables
+  pub inRange-parts : inRange s ≡ sizesFit s && (tasksFit s && rowsFit s && orderFits s)
+  unfolding inRange
+  inRange-parts = and-regroup (sizesFit s) (tasksFit s) (rowsFit s) (orderFits s)
 
   -- what a state in range gives
   pub inRange-ranged : inRange s ≡ true → Ranged s

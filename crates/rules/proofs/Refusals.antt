@@ -1,10 +1,10 @@
 -- Laws of the refusals 1 to 8 (01, "Refusals in order"): a table has one refusal at most; the list is gone through number by
 -- number; and what tables hold that none of the numbers stands against.
 use mathlib.Core.Path.{_≡_, refl, sym, _∙_, subst}
-use mathlib.Core.Bool.{Bool, true, false}
+use mathlib.Core.Bool.{Bool, true}
 use mathlib.Core.Logic.{_⊎_, inl, inr, ⊎-elim}
 use mathlib.Core.List.{List}
-use Prim.Native.Nat.{ℕ, zero, suc, _*_, _/_, _%_, _≤_, _<_}
+use Prim.Native.Nat.{ℕ, suc, _*_, _%_, _≤_, _<_}
 use native.Mathlib.Omega.{arith}
 use lib.ListN.{length, List·getD-eq-default}
 use Rattle.rules.specs.Counting.{firstOf}
@@ -111,7 +111,9 @@ eq-stable : (a b : ℕ) → ((a ≡ b → ⊥) → ⊥) → a ≡ b
 eq-stable a b nn = ⊎-elim (λ h. h) (λ ne. absurd (nn ne)) (eq-or a b)
 
 module _ (tw cw : List ℕ) where
-  pub lengths-are : length tw % taskWidth ≡ 0 → 0 < length tw → length tw ≤ mostTaskWords → length cw % rowWidth ≡ 0 → length cw ≤ mostRowWords → Lengths tw cw
+  pub lengths-are :
+      length tw % taskWidth ≡ 0 → 0 < length tw → length tw ≤ mostTaskWords → length cw % rowWidth ≡ 0 → length cw ≤ mostRowWords
+      → Lengths tw cw
   lengths-are a b c d e = record {
     tasks-whole = omega arith;
     rows-whole = omega arith;

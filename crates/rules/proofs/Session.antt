@@ -25,11 +25,11 @@ use Rattle.rules.proofs.Bench.{undelayed, accepted, ticks}
 -- The file, the tables and the plan
 
 -- "tasks (period, deadline, compute, criticality, flag) 0: 5, 5, 1, 1, 0; 1: 20, 20, 3, 1, 0; 2: 10, 10, 2, 1, 0"
-abbrev sessionTasks : List ℕ
+abbrev pub sessionTasks : List ℕ
 sessionTasks = 5 ∷ 5 ∷ 1 ∷ 1 ∷ 0 ∷ 20 ∷ 20 ∷ 3 ∷ 1 ∷ 0 ∷ 10 ∷ 10 ∷ 2 ∷ 1 ∷ 0 ∷ []
 
 -- "Undelayed rows: 0 to 1, 0 to 2, 1 to 2."
-abbrev sessionRows : List ℕ
+abbrev pub sessionRows : List ℕ
 sessionRows = undelayed 0 1 ++ undelayed 0 2 ++ undelayed 1 2
 
 -- the same as a machine file: each record behind its mark, a TK of eight bytes, a CN of three, and EN
@@ -47,7 +47,7 @@ pub session-read : (taskWords (contentsOf sessionFile) ≡ sessionTasks) × (con
 unfolding records onward itemAt marked taskRow connectionRow taskWords connectionWords
 session-read = (refl, refl)
 
-abbrev sessionPlan : Plan
+abbrev pub sessionPlan : Plan
 sessionPlan = accepted (0 ∷ 1 ∷ 2 ∷ []) (320 ∷ 639 ∷ 640 ∷ []) (1 ∷ 1 ∷ 1 ∷ []) 20
 
 pub session-planned : PlanIs sessionTasks sessionRows sessionPlan
@@ -64,7 +64,7 @@ session-listed = refl
 -- ---------------------------------------------------------------------------------------------------------------------------
 -- The run
 
-abbrev session : State
+abbrev pub session : State
 session = freshState sessionTasks sessionRows sessionPlan
 
 -- what a call shows: its answer, and the input and the buffer words of the three rows after it

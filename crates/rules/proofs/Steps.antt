@@ -2,11 +2,14 @@
 -- and look at no list. Step 4 looks at no cycle, so steps 4 and 5 may change places.
 use mathlib.Core.Path.{_≡_, refl, ap, sym, _∙_}
 use mathlib.Core.Bool.{Bool, true, false, cond, _&&_}
-use Prim.Native.Nat.{ℕ, _<_}
+use Prim.Native.Nat.{ℕ, _≤_, _<_}
+use lib.Dec.{ltb}
+use borrow.Author.Tests.{lt-ltb, le-ltb}
+use Rattle.rules.specs.Refusals.{nothingRuns}
 use lib.ListN.{getD, length}
 use lib.Seq.{getD-set-same, getD-set-other}
-use Rattle.rules.specs.Views.{waiting, taskIn, phaseOf, output, dispatch, buffer, input, moved}
-use Rattle.rules.specs.Steps.{step, delivers, delivered, samples, wakes, records, released, dispatched, someRuns, running, takes, startedAt, chosen, advanced, posts, endedAt}
+use Rattle.rules.specs.Views.{waiting, taskIn, phaseOf, output, dispatch, buffer, input, moved, setHalted}
+use Rattle.rules.specs.Steps.{step, delivers, delivered, samples, wakes, records, released, dispatched, someRuns, running, takes, startedAt, chosen, advanced, posts, endedAt, missing, ticking, completing}
 use Rattle.rules.specs.declared.Phase.{Phase}
 use Rattle.rules.specs.declared.Phase.the-variants as phase
 use Rattle.rules.specs.declared.Task.{Task}
@@ -14,7 +17,7 @@ use Rattle.rules.specs.declared.State.{State}
 use Rattle.rules.specs.declared.Step.{Step}
 use Rattle.rules.specs.declared.Answer.{Answer}
 use Rattle.rules.specs.declared.Answer.the-variants as answer
-use Rattle.rules.proofs.Tests.{cond-map, cond-same, cond-by}
+use Rattle.rules.proofs.Tests.{cond-map, cond-same, cond-by, cond-true, cond-false}
 use Rattle.rules.proofs.Counting.{mapBelow-at}
 
 abbrev phaseIn : Task → Phase
@@ -250,3 +253,22 @@ endedAt-buffer s i w c h l = mapBelow-at (posts s i w) (s .rows) (s .buffers) c 
 pub endedAt-input : (s : State) (i w c : ℕ) → input (endedAt s i w) c ≡ input s c
 unfolding endedAt
 endedAt-input s i w c = refl
+
+-- ---------------------------------------------------------------------------------------------------------------------------
+-- The two ways of a tick, and of a completion.
+
+pub ticking-missed : (s : State) → missing s < s .count → ticking s ≡ step (answer.Missed (missing s)) (setHalted s true)
+unfolding ticking
+ticking-missed s h = cond-true (ltb (missing s) (s .count)) _ _ (lt-ltb _ _ h)
+
+pub ticking-on : (s : State) → s .count ≤ missing s → ticking s ≡ chosen (advanced (dispatched (delivered s)))
+unfolding ticking
+ticking-on s h = cond-false (ltb (missing s) (s .count)) _ _ (le-ltb _ _ h) ∙ sym (chosen-advanced (dispatched (delivered s)))
+
+pub completing-none : (s : State) (w : ℕ) → someRuns s ≡ false → completing s w ≡ step (answer.Refused nothingRuns 0) s
+unfolding completing
+completing-none s w e = cond-false (someRuns s) _ _ e
+
+pub completing-on : (s : State) (w : ℕ) → someRuns s ≡ true → completing s w ≡ chosen (endedAt s (running s) w)
+unfolding completing
+completing-on s w e = cond-true (someRuns s) _ _ e

@@ -17,7 +17,8 @@ returns-2 : tie.Need-returns-2
 returns-2 c =
     let tw = c .before .before .before .before .before .args .tasks .now in
     let cw = c .before .before .before .before .before .args .connections .now in
-    plan-refused tw cw 2 0 _ (row-words-refused tw cw (task-words-passed tw cw (c .before .before .if1 .left)) (c .before .if2 .taken)) (c .refused2 .ensures)
+    let none = task-words-passed tw cw (c .before .before .if1 .left) in
+    plan-refused tw cw 2 0 _ (row-words-refused tw cw none (c .before .if2 .taken)) (c .refused2 .ensures)
 
 plan-rows-requires : tie.Need-plan-rows-requires
 plan-rows-requires c κs =

@@ -25,13 +25,15 @@ cw s = s .args .connections .now
 under-four : (c : tie.Else1) → let s = c .before .before .before .before in NoneUnder (tw s) (cw s) 4
 under-four c =
     let s = c .before .before .before .before in
-    place-passed (tw s) (cw s) 3 _ _ (sizes-told (tw s) (cw s)) (s .pre) (c .before .first-place .ensures) (c .if1 .left)
+    let told = sizes-told (tw s) (cw s) in
+    place-passed (tw s) (cw s) 3 _ _ told (s .pre) (c .before .first-place .ensures) (c .if1 .left)
 
 returns : tie.Need-returns
 returns c =
     let s = c .before .before .before .before .before in
-    plan-refused (tw s) (cw s) 3 _ _
-    (place-refused (tw s) (cw s) 3 _ _ (sizes-told (tw s) (cw s)) (s .pre) (c .before .before .first-place .ensures) (c .before .if1 .taken)) (c .refused .ensures)
+    let told = sizes-told (tw s) (cw s) in
+    plan-refused (tw s) (cw s) 3 _ _ (place-refused (tw s) (cw s) 3 _ _ told (s .pre) (c .before .before .first-place .ensures) (c .before .if1 .taken))
+    (c .refused .ensures)
 
 first-place-requires-2 : tie.Need-first-place-requires-2
 first-place-requires-2 c κs = search needs
@@ -42,14 +44,16 @@ refused-requires-2 c κs = search needs
 returns-2 : tie.Need-returns-2
 returns-2 c =
     let s = c .before .before .before .before .before .before .before in
-    plan-refused (tw s) (cw s) 4 _ _
-    (place-refused (tw s) (cw s) 4 _ _ (joins-told (tw s) (cw s)) (under-four (c .before .before .before)) (c .before .before .first-place2 .ensures) (c .before .if2 .taken))
+    let told = joins-told (tw s) (cw s) in
+    let none = under-four (c .before .before .before) in
+    plan-refused (tw s) (cw s) 4 _ _ (place-refused (tw s) (cw s) 4 _ _ told none (c .before .before .first-place2 .ensures) (c .before .if2 .taken))
     (c .refused2 .ensures)
 
 plan-chains-requires : tie.Need-plan-chains-requires
 plan-chains-requires c κs =
     let s = c .before .before .before .before .before .before in
-    place-passed (tw s) (cw s) 4 _ _ (joins-told (tw s) (cw s)) (under-four (c .before .before)) (c .before .first-place2 .ensures) (c .if2 .left)
+    let told = joins-told (tw s) (cw s) in
+    place-passed (tw s) (cw s) 4 _ _ told (under-four (c .before .before)) (c .before .first-place2 .ensures) (c .if2 .left)
 
 returns-3 : tie.Need-returns-3
 returns-3 c = search needs

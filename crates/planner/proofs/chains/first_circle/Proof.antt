@@ -31,7 +31,9 @@ index-2-if1 : tie.Need-index-2-if1 Inv-loop μ-loop
 index-2-if1 c = search needs
 
 returns : tie.Need-returns Inv-loop μ-loop
-returns c = firstOf-found (circles (c .before .before .before .before .args .chains .now)) (c .before .before .before .before .args .n) (c .before .before .before .loop .p) (omega arith) (c .before .before .before .loop .inv .1) (lt-ltb _ _ (c .if1 .taken))
+returns c =
+    let a = c .before .before .before .before .args in
+    firstOf-found (circles (a .chains .now)) (a .n) (c .before .before .before .loop .p) (omega arith) (c .before .before .before .loop .inv .1) (lt-ltb _ _ (c .if1 .taken))
 
 add-p : tie.Need-add-p Inv-loop μ-loop
 add-p c = search needs
@@ -43,7 +45,9 @@ loop-again : tie.Need-loop-again Inv-loop μ-loop
 loop-again c = (omega arith, below-more _ _ (c .before .before .before .loop .inv .1) (le-ltb _ _ (c .if1 .left)))
 
 returns-2 : tie.Need-returns-2 Inv-loop μ-loop
-returns-2 c = firstOf-end (circles (c .before .before .args .chains .now)) (c .before .before .args .n) (c .before .loop .p) (omega arith) (omega arith) (c .before .loop .inv .1)
+returns-2 c =
+    let a = c .before .before .args in
+    firstOf-end (circles (a .chains .now)) (a .n) (c .before .loop .p) (omega arith) (omega arith) (c .before .loop .inv .1)
 
 pub first-circle-spec : {M : Type 1} → statement M
 first-circle-spec =

@@ -42,7 +42,9 @@ loop-again c =
     )
 
 returns : tie.Need-returns Inv-loop μ-loop
-returns c = mapBelow-end (noted (c .before .before .args .t2) (c .before .before .args .k)) 32 (c .before .loop .j) _ _ (omega arith) (omega arith) (c .before .loop .inv .1)
+returns c =
+    let l = c .before .loop in
+    mapBelow-end (noted (c .before .before .args .t2) (c .before .before .args .k)) 32 (l .j) _ _ (omega arith) (omega arith) (l .inv .1)
 
 pub noted-spec : {M : Type 1} → statement M
 noted-spec =

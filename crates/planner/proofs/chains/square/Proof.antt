@@ -13,7 +13,9 @@ use Rattle.planner.proofs.chains.square.Statement.{statement}
 use Rattle.planner.proofs.chains.square.Tie as tie
 
 abbrev Inv-loop : tie.InvT-loop
-Inv-loop connections n chains₀ i₀ chains i = (length chains ≡ 32) × ((q : ℕ) → q < i → ChainsFrom (Link connections) n q (getD chains q []))
+Inv-loop connections n chains₀ i₀ chains i =
+    (length chains ≡ 32)
+    × ((q : ℕ) → q < i → ChainsFrom (Link connections) n q (getD chains q []))
 
 abbrev μ-loop : tie.MeasureT-loop
 μ-loop connections n chains₀ i₀ chains i = n - i

@@ -27,10 +27,14 @@ cast-t : tie.Need-cast-t Inv-loop μ-loop
 cast-t c = search needs
 
 array-read-if1 : tie.Need-array-read-if1 Inv-loop μ-loop
-array-read-if1 c = rw (c .before .before .before .row-at .ensures) (c .before .before .before .before .before .before .before .pre (c .before .before .before .before .before .loop .c) (c .before .before .before .before .loop-test .taken) .0)
+array-read-if1 c =
+    let h = c .before .before .before .before .loop-test .taken in
+    rw (c .before .before .before .row-at .ensures) (c .before .before .before .before .before .before .before .pre (c .before .before .before .before .before .loop .c) h .0)
 
 array-write-next : tie.Need-array-write-next Inv-loop μ-loop
-array-write-next c = rw (c .before .before .before .before .row-at .ensures) (c .before .before .before .before .before .before .before .before .pre (c .before .before .before .before .before .before .loop .c) (c .before .before .before .before .before .loop-test .taken) .1)
+array-write-next c =
+    let h = c .before .before .before .before .before .loop-test .taken in
+    rw (c .before .before .before .before .row-at .ensures) (c .before .before .before .before .before .before .before .before .pre (c .before .before .before .before .before .before .loop .c) h .1)
 
 add-c : tie.Need-add-c Inv-loop μ-loop
 add-c c = search needs
@@ -41,9 +45,9 @@ loop-less c = search needs
 loop-again : tie.Need-loop-again Inv-loop μ-loop
 loop-again c =
     let l = c .before .before .before .before .before .before .loop in
+    let h = c .before .before .before .before .before .loop-test .taken in
     let e = c .before .before .before .before .row-at .ensures in
-    ⊎-elim
-    (λ w. rw (w .1) (step-mark _ _ _ _ (l .inv) _ e (c .before .before .before .before .before .loop-test .taken) (c .before .before .before .before .before .before .before .before .pre (l .c) (c .before .before .before .before .before .loop-test .taken) .1) (w .0 .taken)))
+    ⊎-elim (λ w. rw (w .1) (step-mark _ _ _ _ (l .inv) _ e h (c .before .before .before .before .before .before .before .before .pre (l .c) h .1) (w .0 .taken)))
     (λ w. rw (w .1) (step-skip _ _ _ _ (l .inv) _ e (w .0 .left))) (c .if1 .came)
 
 returns : tie.Need-returns Inv-loop μ-loop

@@ -1,7 +1,7 @@
 -- `planner::internal::columns_of` meets its contract. The invariant: the numbers of the tasks below i stand in their columns, and zeros past them.
 -- The measure is the tasks that are left. Assumes nothing.
 use mathlib.Core.Path.{_≡_, refl}
-use Prim.Native.Nat.{ℕ, _-_, _≤_}
+use Prim.Native.Nat.{_-_, _≤_}
 use native.Mathlib.Omega.{arith}
 use Rattle.rules.specs.Sizes.{mostTasks}
 use Rattle.rules.specs.Tables.{count}
@@ -47,8 +47,8 @@ loop-again c =
     let tw = c .before .before .before .before .args .tasks .now in
     let sq = c .before .before .before .before .args .chains .now in (
       omega arith,
-      column-turn (λ q. deadlineOver tw sq q (count tw)) (l .i) 0 mostTasks _ _ (l .inv .1) (c .numbers-of .ensures .0),
-      column-turn (λ q. criticalityOver tw sq q (count tw)) (l .i) 0 mostTasks _ _ (l .inv .2) (c .numbers-of .ensures .1),
+      column-turn (λ q. deadlineOver tw sq q (count tw)) (l .i) 0 mostTasks _ _ (l .inv .1) (c .numbers-of .ensures .deadline-is),
+      column-turn (λ q. criticalityOver tw sq q (count tw)) (l .i) 0 mostTasks _ _ (l .inv .2) (c .numbers-of .ensures .criticality-is),
     )
 
 returns : tie.Need-returns Inv-loop μ-loop
@@ -56,9 +56,12 @@ returns c =
     let l = c .before .loop in
     let tw = c .before .before .before .args .tasks .now in
     let sq = c .before .before .before .args .chains .now in
+    let n = count tw in
     record {
-      deadlines-are = column-end (λ q. deadlineOver tw sq q (count tw)) (count tw) (l .i) 0 mostTasks _ (omega arith) (omega arith) (l .inv .1);
-      criticalities-are = column-end (λ q. criticalityOver tw sq q (count tw)) (count tw) (l .i) 0 mostTasks _ (omega arith) (omega arith) (l .inv .2);
+      deadlines-are =
+          column-end (λ q. deadlineOver tw sq q n) n (l .i) 0 mostTasks _ (omega arith) (omega arith) (l .inv .1);
+      criticalities-are =
+          column-end (λ q. criticalityOver tw sq q n) n (l .i) 0 mostTasks _ (omega arith) (omega arith) (l .inv .2);
     }
 
 pub columns-of-spec : {M : Type 1} → statement M

@@ -1,6 +1,5 @@
 -- `planner::internal::lower` meets its contract, by its test. Assumes nothing.
 use Rattle.planner.proofs.Internals.{lower-taken, lower-left}
-use borrow.Author.Needs.{needs}
 use Rattle.planner.proofs.internal.lower.Statement.{statement}
 use Rattle.planner.proofs.internal.lower.Tie as tie
 

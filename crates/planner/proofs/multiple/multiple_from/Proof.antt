@@ -1,7 +1,6 @@
 -- `planner::multiple::multiple_from` meets its contract. The invariant: t is a multiple of a, and b divides none below it. The measure is what
 -- is left of 720,720. Assumes nothing.
 use Prim.Native.Nat.{_+_, _-_}
-use native.Mathlib.Omega.{arith}
 use Rattle.rules.specs.Sizes.{mostMultiple}
 use Rattle.planner.proofs.Multiples.{Trying, trying-first, trying-more, trying-found, trying-none}
 use borrow.Author.Needs.{needs}

@@ -1,7 +1,7 @@
 -- `planner::multiple::multiple_of` meets its contract. The invariant: the multiple is the least of the periods that were passed. The measure is
 -- the tasks that are left. Assumes nothing.
-use mathlib.Core.Path.{_≡_, ap}
-use Prim.Native.Nat.{ℕ, _-_, _≤_, _<_}
+use mathlib.Core.Path.{ap}
+use Prim.Native.Nat.{_-_, _≤_}
 use native.Mathlib.Omega.{arith}
 use Rattle.rules.specs.Tables.{count, period}
 use Rattle.planner.specs.declared.places.Values.{Values}
@@ -29,12 +29,14 @@ multiple-of-two-requires : tie.Need-multiple-of-two-requires Inv-loop μ-loop
 multiple-of-two-requires c κs =
     let m = c .before .before .before .loop .inv .1 in
     let s = c .before .before .before .before .before .pre (c .before .before .before .loop .i) (c .before .before .loop-test .taken) in
-    (m .some, m .small, rw (c .before .task-at .ensures) (s .period-low), rw (c .before .task-at .ensures) (omega (arith, s .period-high)))
+    let e = c .before .task-at .ensures in
+    (m .some, m .small, rw e (s .period-low), rw e (omega (arith, s .period-high)))
 
 returns : tie.Need-returns Inv-loop μ-loop
 returns c =
-    multiple-over _ (c .before .before .before .before .before .loop .i) _ _ _ (ap (λ (v : Values). v .period) (c .before .before .before .task-at .ensures)) (c .before .before .before .before .before .loop .inv .1)
-    (c .before .multiple-of-two .ensures) (c .before .before .before .before .loop-test .taken) (c .if1 .taken)
+    let l = c .before .before .before .before .before .loop in
+    let e = ap (λ (v : Values). v .period) (c .before .before .before .task-at .ensures) in
+    multiple-over _ (l .i) _ _ _ e (l .inv .1) (c .before .multiple-of-two .ensures) (c .before .before .before .before .loop-test .taken) (c .if1 .taken)
 
 add-i : tie.Need-add-i Inv-loop μ-loop
 add-i c = search needs
@@ -43,10 +45,9 @@ loop-less : tie.Need-loop-less Inv-loop μ-loop
 loop-less c = search needs
 
 loop-again : tie.Need-loop-again Inv-loop μ-loop
-loop-again c = (
-  omega arith,
-  multiple-more _ _ _ _ _ (ap (λ (v : Values). v .period) (c .before .before .before .task-at .ensures)) (c .before .before .before .before .before .loop .inv .1) (c .before .multiple-of-two .ensures) (omega arith),
-)
+loop-again c =
+    let e = ap (λ (v : Values). v .period) (c .before .before .before .task-at .ensures) in
+    (omega arith, multiple-more _ _ _ _ _ e (c .before .before .before .before .before .loop .inv .1) (c .before .multiple-of-two .ensures) (omega arith))
 
 returns-2 : tie.Need-returns-2 Inv-loop μ-loop
 returns-2 c = multiple-done _ (c .before .loop .i) _ (omega arith) (c .before .loop .inv .1)

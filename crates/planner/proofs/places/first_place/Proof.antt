@@ -27,7 +27,10 @@ stands-requires : tie.Need-stands-requires Inv-loop μ-loop
 stands-requires c κs = c .before .before .before .before .pre (c .before .loop .p) (omega arith)
 
 returns : tie.Need-returns Inv-loop μ-loop
-returns c = firstOf-found (stands (c .before .before .before .before .before .before .args .tasks .now) (c .before .before .before .before .before .before .args .connections .now) (c .before .before .before .before .before .before .args .number)) (c .before .before .before .before .before .before .args .n) (c .before .before .before .loop .p) (omega arith) (c .before .before .before .loop .inv .1) (sym (c .before .stands .ensures) ∙ c .if1 .taken)
+returns c =
+    let a = c .before .before .before .before .before .before .args in
+    firstOf-found (stands (a .tasks .now) (a .connections .now) (a .number)) (a .n) (c .before .before .before .loop .p) (omega arith)
+    (c .before .before .before .loop .inv .1) (sym (c .before .stands .ensures) ∙ c .if1 .taken)
 
 add-p : tie.Need-add-p Inv-loop μ-loop
 add-p c = search needs
@@ -39,7 +42,10 @@ loop-again : tie.Need-loop-again Inv-loop μ-loop
 loop-again c = (omega arith, below-more _ _ (c .before .before .before .loop .inv .1) (sym (c .before .stands .ensures) ∙ c .if1 .left))
 
 returns-2 : tie.Need-returns-2 Inv-loop μ-loop
-returns-2 c = firstOf-end (stands (c .before .before .before .before .args .tasks .now) (c .before .before .before .before .args .connections .now) (c .before .before .before .before .args .number)) (c .before .before .before .before .args .n) (c .before .loop .p) (omega arith) (omega arith) (c .before .loop .inv .1)
+returns-2 c =
+    let a = c .before .before .before .before .args in
+    firstOf-end (stands (a .tasks .now) (a .connections .now) (a .number)) (a .n) (c .before .loop .p) (omega arith) (omega arith)
+    (c .before .loop .inv .1)
 
 pub first-place-spec : {M : Type 1} → statement M
 first-place-spec =

@@ -21,37 +21,46 @@ joins-requires : tie.Need-joins-requires
 joins-requires c κs = search needs
 
 returns-2 : tie.Need-returns-2
-returns-2 c = stands-joins _ _ _ _ (c .before .before .before .if1 .left) _ (c .before .before .row-at .ensures) _ (c .before .if2 .taken) (c .joins .ensures)
+returns-2 c =
+    stands-joins _ _ _ _ (c .before .before .before .if1 .left) _ (c .before .before .row-at .ensures) _ (c .before .if2 .taken) (c .joins .ensures)
 
 cast-task-at : tie.Need-cast-task-at
 cast-task-at c = search needs
 
 task-at-requires-2 : tie.Need-task-at-requires-2
-task-at-requires-2 c κs = rw (c .before .before .row-at .ensures) (c .before .before .before .before .before .before .pre .joined (c .before .before .before .if1 .left) (c .before .if2 .left) .sender-task)
+task-at-requires-2 c κs =
+    let j = c .before .before .before .before .before .before .pre .joined (c .before .before .before .if1 .left) (c .before .if2 .left) in
+    rw (c .before .before .row-at .ensures) (j .sender-task)
 
 cast-task-at-2 : tie.Need-cast-task-at-2
 cast-task-at-2 c = search needs
 
 task-at-requires-3 : tie.Need-task-at-requires-3
-task-at-requires-3 c κs = rw (c .before .before .before .before .row-at .ensures) (c .before .before .before .before .before .before .before .before .pre .joined (c .before .before .before .before .before .if1 .left) (c .before .before .before .if2 .left) .receiver-task)
+task-at-requires-3 c κs =
+    let j = c .before .before .before .before .before .before .before .before .pre .joined (c .before .before .before .before .before .if1 .left) (c .before .before .before .if2 .left) in
+    rw (c .before .before .before .before .row-at .ensures) (j .receiver-task)
 
 uneven-requires : tie.Need-uneven-requires
 uneven-requires c κs =
     let j = c .before .before .before .before .before .before .before .before .before .before .before .pre .joined (c .before .before .before .before .before .before .before .before .if1 .left) (c .before .before .before .before .before .before .if2 .left) in
-    rw (c .before .before .before .before .task-at2 .ensures, c .before .before .task-at3 .ensures, c .before .before .before .before .before .before .before .row-at .ensures) (j .sender-period, j .receiver-period)
+    let from = c .before .before .before .before .task-at2 .ensures in
+    let to = c .before .before .task-at3 .ensures in
+    rw (from, to, c .before .before .before .before .before .before .before .row-at .ensures) (j .sender-period, j .receiver-period)
 
 returns-3 : tie.Need-returns-3
 returns-3 c =
-    stands-uneven _ _ _ _ (c .before .before .before .before .before .before .before .before .before .if1 .left) _ (c .before .before .before .before .before .before .before .before .row-at .ensures) (c .before .before .before .before .before .before .before .if2 .left) _ _ (c .before .before .before .before .before .task-at2 .ensures)
-    (c .before .before .before .task-at3 .ensures) _ (c .before .before .if3 .taken) (c .uneven .ensures)
+    let r = c .before .before .before .before .before .before .before .before in
+    stands-uneven _ _ _ _ (r .before .if1 .left) _ (r .row-at .ensures) (c .before .before .before .before .before .before .before .if2 .left) _ _
+    (c .before .before .before .before .before .task-at2 .ensures) (c .before .before .before .task-at3 .ensures) _ (c .before .before .if3 .taken) (c .uneven .ensures)
 
 raised-requires : tie.Need-raised-requires
 raised-requires c κs = search needs
 
 returns-4 : tie.Need-returns-4
 returns-4 c =
-    stands-raised _ _ _ _ (c .before .before .before .before .before .before .before .before .before .if1 .left) _ (c .before .before .before .before .before .before .before .before .row-at .ensures) (c .before .before .before .before .before .before .before .if2 .left) _ _ (c .before .before .before .before .before .task-at2 .ensures)
-    (c .before .before .before .task-at3 .ensures) _ (c .before .before .if3 .left) (c .raised .ensures)
+    let r = c .before .before .before .before .before .before .before .before in
+    stands-raised _ _ _ _ (r .before .if1 .left) _ (r .row-at .ensures) (c .before .before .before .before .before .before .before .if2 .left) _ _
+    (c .before .before .before .before .before .task-at2 .ensures) (c .before .before .before .task-at3 .ensures) _ (c .before .before .if3 .left) (c .raised .ensures)
 
 pub stands-spec : {M : Type 1} → statement M
 stands-spec =
