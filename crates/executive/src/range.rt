@@ -1,0 +1,183 @@
+// Refusal 16: a state out of range. Each test walks one or two columns without a branch.
+ghost use mathlib.Core.Path.{_≡_};
+ghost use mathlib.Core.Bool.{true, _&&_};
+ghost use Prim.Native.Nat.{_<_, _≤_};
+ghost use Rattle.rules.specs.Counting.{allBelow};
+ghost use Rattle.executive.specs.Range.{sizesIn, timesIn, belowIn, rowIn, namedIn, tasksIn, orderIn, tablesIn};
+ghost use Rattle.executive.specs.Marks.{marked, MarkedBy, Below};
+
+// "a count .. outside the sizes", "a common multiple outside 1 to 720,720, a cycle .. not below it".
+fn sizes_fit(n: usize, m: usize, u: u32, t: u32) -> bool
+    ensures { λ r. ⌜ r ≡ sizesIn n m u t ⌝ }
+{
+    (1 <= n) & (n <= 32) & (m <= 64) & (1 <= u) & (u <= 720720) & (t < u)
+}
+
+// "the ranges of 3".
+fn times_fit<'a>(
+    periods: &'a [u16; 32],
+    deadlines: &'a [u16; 32],
+    computes: &'a [u16; 32],
+    n: usize,
+) -> bool
+    requires { ⌜ n ≤ 32 ⌝ }
+    ensures { λ r. ⌜ r ≡ allBelow (timesIn (now (periods .entry)) (now (deadlines .entry)) (now (computes .entry))) n ⌝ }
+{
+    let mut ok = true;
+    let mut i: usize = 0;
+    while i < n {
+        let p = periods[i];
+        let d = deadlines[i];
+        let c = computes[i];
+        ok = ok & ((1 <= c) & (c <= d) & (d <= p) & (p <= 10000));
+        i += 1;
+    }
+    ok
+}
+
+// "a .. recorded dispatch cycle not below it".
+fn dispatches_fit(dispatches: &[u32; 32], n: usize, u: u32) -> bool
+    requires { ⌜ n ≤ 32 ⌝ }
+    ensures { λ r. ⌜ r ≡ allBelow (belowIn (now (dispatches .entry)) u) n ⌝ }
+{
+    let mut ok = true;
+    let mut i: usize = 0;
+    while i < n {
+        ok = ok & (dispatches[i] < u);
+        i += 1;
+    }
+    ok
+}
+
+// "the ranges of .. 4".
+fn rows_fit<'a>(senders: &'a [u8; 64], receivers: &'a [u8; 64], m: usize, n: u8) -> bool
+    requires { ⌜ m ≤ 64 ⌝ }
+    ensures { λ r. ⌜ r ≡ allBelow (rowIn (now (senders .entry)) (now (receivers .entry)) n) m ⌝ }
+{
+    let mut ok = true;
+    let mut c: usize = 0;
+    while c < m {
+        ok = ok & ((senders[c] < n) & (receivers[c] < n));
+        c += 1;
+    }
+    ok
+}
+
+// "an order that does not name each task once": each place names a task, and each task has a place.
+fn places_fit(order: &[u8; 32], n: usize, top: u8) -> bool
+    requires { ⌜ n ≤ 32 ⌝ }
+    ensures { λ r. ⌜ r ≡ allBelow (belowIn (now (order .entry)) top) n ⌝ }
+{
+    let mut ok = true;
+    let mut k: usize = 0;
+    while k < n {
+        ok = ok & (order[k] < top);
+        k += 1;
+    }
+    ok
+}
+
+fn named(order: &[u8; 32], n: usize) -> [bool; 32]
+    requires { ⌜ (n ≤ 32) × Below (now order) n 32 ⌝ }
+    ensures { λ r. ⌜ MarkedBy (namedIn (now (order .entry)) n) r ⌝ }
+{
+    let mut seen = [false; 32];
+    let mut k: usize = 0;
+    while k < n {
+        let i = order[k] as usize;
+        seen[i] = true;
+        k += 1;
+    }
+    seen
+}
+
+fn all_seen(seen: &[bool; 32], n: usize) -> bool
+    requires { ⌜ n ≤ 32 ⌝ }
+    ensures { λ r. ⌜ r ≡ allBelow (marked (now (seen .entry))) n ⌝ }
+{
+    let mut ok = true;
+    let mut i: usize = 0;
+    while i < n {
+        ok = ok & seen[i];
+        i += 1;
+    }
+    ok
+}
+
+fn order_fits(order: &[u8; 32], n: usize) -> bool
+    requires { ⌜ n ≤ 32 ⌝ }
+    ensures { λ r. ⌜ r ≡ orderIn (now (order .entry)) n ⌝ }
+{
+    if !places_fit(order, n, n as u8) {
+        return false;
+    }
+    let seen = named(order, n);
+    all_seen(&seen, n)
+}
+
+fn tasks_fit<'a>(
+    periods: &'a [u16; 32],
+    deadlines: &'a [u16; 32],
+    computes: &'a [u16; 32],
+    dispatches: &'a [u32; 32],
+    n: usize,
+    u: u32,
+) -> bool
+    requires { ⌜ n ≤ 32 ⌝ }
+    ensures { λ r. ⌜ r ≡ tasksIn (now (periods .entry)) (now (deadlines .entry)) (now (computes .entry)) (now (dispatches .entry)) n u ⌝ }
+{
+    times_fit(periods, deadlines, computes, n) & dispatches_fit(dispatches, n, u)
+}
+
+fn tables_fit<'a>(
+    periods: &'a [u16; 32],
+    deadlines: &'a [u16; 32],
+    computes: &'a [u16; 32],
+    dispatches: &'a [u32; 32],
+    senders: &'a [u8; 64],
+    receivers: &'a [u8; 64],
+    order: &'a [u8; 32],
+    n: usize,
+    m: usize,
+    u: u32,
+) -> bool
+    requires { ⌜ (n ≤ 32) × (m ≤ 64) ⌝ }
+    ensures { λ r. ⌜ r ≡ tablesIn (now (periods .entry)) (now (deadlines .entry)) (now (computes .entry)) (now (dispatches .entry)) (now (senders .entry)) (now (receivers .entry)) (now (order .entry)) n m u ⌝ }
+{
+    tasks_fit(periods, deadlines, computes, dispatches, n, u)
+        & rows_fit(senders, receivers, m, n as u8)
+        & order_fits(order, n)
+}
+
+// The sizes first: with them the tables can be walked.
+pub(crate) fn in_range<'a>(
+    periods: &'a [u16; 32],
+    deadlines: &'a [u16; 32],
+    computes: &'a [u16; 32],
+    dispatches: &'a [u32; 32],
+    senders: &'a [u8; 64],
+    receivers: &'a [u8; 64],
+    order: &'a [u8; 32],
+    n: usize,
+    m: usize,
+    u: u32,
+    t: u32,
+) -> bool
+    ensures { λ r. ⌜ r ≡ sizesIn n m u t && tablesIn (now (periods .entry)) (now (deadlines .entry)) (now (computes .entry)) (now (dispatches .entry)) (now (senders .entry)) (now (receivers .entry)) (now (order .entry)) n m u ⌝ }
+{
+    if !sizes_fit(n, m, u, t) {
+        return false;
+    }
+    tables_fit(
+        periods,
+        deadlines,
+        computes,
+        dispatches,
+        senders,
+        receivers,
+        order,
+        n,
+        m,
+        u,
+    )
+}
