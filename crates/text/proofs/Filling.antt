@@ -28,7 +28,7 @@ pub put-twenty : {m : ℕ} {out out' : List ℕ} {at r : ℕ} (n : ℕ) → Put 
 put-twenty n p = record { place = p .place; text = p .text; short = omega (arith, p .place, decimal-length n) }
 
 -- the text stands in front
-put-front : {m : ℕ} {out s out' : List ℕ} {r : ℕ} → Put m out 0 s r out' → m ≤ length out → take r out' ≡ s
+pub put-front : {m : ℕ} {out s out' : List ℕ} {r : ℕ} → Put m out 0 s r out' → m ≤ length out → take r out' ≡ s
 put-front {out = out} {s = s} {out' = out'} {r = r} p h =
     let e : r ≡ length s = omega (arith, p .place) in
     let f : out' ≡ s ++ drop (0 + length s) out = p .text ∙ sets-eq s out 0 (omega (arith, p .place, p .short)) in
@@ -39,11 +39,14 @@ pub put-more : {m n at : ℕ} {out s out' : List ℕ} {r : ℕ} → m ≤ n → 
 put-more h p = record { place = p .place; text = p .text; short = omega (arith, p .short) }
 
 -- the count of what was put is that of a part of the buffer
-pub put-whole : {m n at : ℕ} {out s out' : List ℕ} {r : ℕ} → m ≤ n → at + n ≤ length out → Put m out at s r out' → Put n out at s r out' × Counts r out'
-put-whole {at = at} {out = out} {s = s} {out' = out'} {r = r} h l p =
+pub put-counts : {m at : ℕ} {out s out' : List ℕ} {r : ℕ} → at + m ≤ length out → Put m out at s r out' → Counts r out'
+put-counts {at = at} {out = out} {s = s} {out' = out'} {r = r} l p =
     let e : length out' ≡ length out = ap length (p .text) ∙ length-sets out at s in
     let f : r ≤ length out' = omega (arith, p .short) in
-    (put-more h p, (f, sym (length-take-le r out' f)))
+    (f, sym (length-take-le r out' f))
+
+pub put-whole : {m n at : ℕ} {out s out' : List ℕ} {r : ℕ} → m ≤ n → at + n ≤ length out → Put m out at s r out' → Put n out at s r out' × Counts r out'
+put-whole h l p = (put-more h p, put-counts l (put-more h p))
 
 -- a text that was put in front of a line's own buffer is the line
 pub line-of : {m : ℕ} {own s own' out out' : List ℕ} {n at r : ℕ} → Put m own 0 s n own' → m ≤ length own → Line (take n own') out at r out' → Line s out at r out'
