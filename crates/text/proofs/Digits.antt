@@ -1,4 +1,4 @@
--- The fewest digits that hold a number are its digits with no zero in front, and 64 bits need no more than 20.
+-- The fewest digits that hold a number are its digits with no zero in front, 64 bits need no more than 20, and what is printed reads back.
 use mathlib.Core.Bool.{Bool, true, false}
 use mathlib.Core.Path.{_≡_, refl, sym, ap, subst, _∙_}
 use mathlib.Core.List.{List, [], _∷_, _++_}
@@ -60,3 +60,24 @@ within-length (suc k) n =
 pub decimal-length : (n : ℕ) → length (decimal n) ≤ 20
 unfolding decimal
 decimal-length n = within-length 20 n
+
+-- what is printed reads back: the digits of a 64-bit number, in base ten, are the number
+abbrev read : ℕ → List ℕ → ℕ
+read v [] = v
+read v (d ∷ ds) = read (v * 10 + (d - 48)) ds
+
+read-last : (v : ℕ) (ds : List ℕ) (d : ℕ) → read v (ds ++ (d ∷ [])) ≡ read v ds * 10 + (d - 48)
+read-last v [] d = refl
+read-last v (x ∷ ds) d = read-last (v * 10 + (x - 48)) ds d
+
+within-reads : (k n : ℕ) → n < 10 ^ k → read 0 (within k n) ≡ n
+unfolding within
+within-reads zero n h = omega arith
+within-reads (suc k) n h =
+    let p : 10 ^ suc k ≡ 10 ^ k * 10 = pow-suc 10 k in
+    byTest (ltb n 10) (λ e. rw e (omega arith))
+    (λ e. rw e (read-last 0 (within k (n / 10)) (48 + n % 10) ∙ (let m = within-reads k (n / 10) (omega arith) in omega arith)))
+
+pub decimal-reads : (n : ℕ) → n < 18446744073709551616 → read 0 (decimal n) ≡ n
+unfolding decimal
+decimal-reads n h = within-reads 20 n (omega arith)

@@ -4,7 +4,7 @@ ghost use mathlib.Core.List.{[], _++_};
 ghost use Prim.Native.Nat.{_+_, _≤_};
 ghost use lib.ListN.{length};
 ghost use Rattle.io.specs.Counts.{Counts};
-ghost use Rattle.text.specs.Lines.{decimal, spaced, newline, answerLine, badLine, tableHead, tableRow};
+ghost use Rattle.text.specs.Lines.{decimal, spaced, newline, refused, answerLine, badLine, tableHead, tableRow};
 ghost use Rattle.text.specs.Buffers.{Put, Line};
 use rules::Answer;
 
@@ -49,22 +49,32 @@ fn put_named(out: &mut [u8], word: &[u8], n: usize) -> usize
     put(out, q, b"\n")
 }
 
+// `refused`, a number and a place.
+fn put_refusal(n: usize, place: usize, out: &mut [u8]) -> usize
+    requires { ⌜ 50 ≤ length (now out) ⌝ }
+    ensures { λ r. ⌜ Put 50 (now (out .entry)) 0 (refused ++ spaced n ++ spaced place ++ newline) r (now (out .exit)) ⌝ }
+{
+    let p = put(out, 0, b"refused");
+    let q = put_spaced(out, p, n);
+    let r = put_spaced(out, q, place);
+    put(out, r, b"\n")
+}
+
 fn put_answer(a: Answer, out: &mut [u8]) -> usize
     requires { ⌜ 50 ≤ length (now out) ⌝ }
     ensures { λ r. ⌜ Put 50 (now (out .entry)) 0 (answerLine a) r (now (out .exit)) ⌝ }
     ensures { λ r. ⌜ Counts r (now (out .exit)) ⌝ }
 {
-    match a {
-        Answer::Running(i) => put_named(out, b"running", i),
-        Answer::Idle => put(out, 0, b"idle\n"),
-        Answer::Missed(i) => put_named(out, b"missed", i),
-        Answer::Refused(n, place) => {
-            let p = put(out, 0, b"refused");
-            let q = put_spaced(out, p, n);
-            let r = put_spaced(out, q, place);
-            put(out, r, b"\n")
-        }
-    }
+    let Answer::Running(i) = a else {
+        let Answer::Missed(i) = a else {
+            let Answer::Refused(n, place) = a else {
+                return put(out, 0, b"idle\n");
+            };
+            return put_refusal(n, place, out);
+        };
+        return put_named(out, b"missed", i);
+    };
+    put_named(out, b"running", i)
 }
 
 fn put_row(place: usize, task: usize, deadline: usize, criticality: usize, out: &mut [u8]) -> usize
