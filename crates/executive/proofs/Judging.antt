@@ -1,7 +1,8 @@
--- The tests 16 and 15 before a call is carried out.
-use mathlib.Core.Path.{_≡_, sym, _∙_}
-use mathlib.Core.Bool.{true, false}
-use Rattle.rules.specs.Refusals.{isHalted, outOfRange}
+-- The tests 16 and 15 before a call is carried out: by the number k of the one that stands.
+use mathlib.Core.Path.{_≡_, refl, ap, sym, _∙_}
+use mathlib.Core.Bool.{Bool, true, false}
+use Prim.Native.Nat.{ℕ, _≤_, _<_}
+use native.Mathlib.Omega.{arith}
 use Rattle.rules.specs.Steps.{step}
 use Rattle.rules.specs.Range.{inRange}
 use Rattle.rules.specs.Calls.{judged}
@@ -11,14 +12,26 @@ use Rattle.rules.specs.declared.Step.{Step}
 use Rattle.rules.specs.declared.Answer.the-variants as answer
 use Rattle.rules.proofs.Answers.{step-refl}
 use Rattle.rules.proofs.Calls.{judged-out, judged-halted, judged-on}
+use Rattle.executive.specs.Range.{refusalOf}
 
-module _ (s : State) (carried r : Step) where
-  pub refused-range : inRange s ≡ false → r ≡ step (answer.Refused outOfRange 0) s → StepIs (judged (inRange s) (s .halted) s carried) r
-  refused-range e q = step-refl _ r (q ∙ sym (judged-out (inRange s) (s .halted) s carried e))
+stands : (ranged halted : Bool) (s : State) (carried : Step) (k : ℕ) → k ≡ refusalOf ranged halted → 0 < k →
+    step (answer.Refused k 0) s ≡ judged ranged halted s carried
+stands true true s carried k e h = ap (λ (n : ℕ). step (answer.Refused n 0) s) e ∙ sym (judged-halted true true s carried refl refl)
+stands true false s carried k e h = absurd (omega arith)
+stands false halted s carried k e h = ap (λ (n : ℕ). step (answer.Refused n 0) s) e ∙ sym (judged-out false halted s carried refl)
 
-  pub refused-halted : inRange s ≡ true → s .halted ≡ true → r ≡ step (answer.Refused isHalted 0) s →
-      StepIs (judged (inRange s) (s .halted) s carried) r
-  refused-halted e h q = step-refl _ r (q ∙ sym (judged-halted (inRange s) (s .halted) s carried e h))
+none : (ranged halted : Bool) (k : ℕ) → k ≡ refusalOf ranged halted → k ≤ 0 → (ranged ≡ true) × (halted ≡ false)
+none true true k e h = absurd (omega arith)
+none true false k e h = (refl, refl)
+none false halted k e h = absurd (omega arith)
 
-  pub carried-out : inRange s ≡ true → s .halted ≡ false → r ≡ carried → StepIs (judged (inRange s) (s .halted) s carried) r
-  carried-out e h q = step-refl _ r (q ∙ sym (judged-on (inRange s) (s .halted) s carried e h))
+module _ (s : State) (k : ℕ) (e : k ≡ refusalOf (inRange s) (s .halted)) where
+  pub in-range-by : k ≤ 0 → inRange s ≡ true
+  in-range-by h = none (inRange s) (s .halted) k e h .0
+
+  module _ (carried r : Step) where
+    pub refused-by : 0 < k → r ≡ step (answer.Refused k 0) s → StepIs (judged (inRange s) (s .halted) s carried) r
+    refused-by h q = step-refl _ r (q ∙ stands (inRange s) (s .halted) s carried k e h)
+
+    pub carried-out : k ≤ 0 → r ≡ carried → StepIs (judged (inRange s) (s .halted) s carried) r
+    carried-out h q = let w = none (inRange s) (s .halted) k e h in step-refl _ r (q ∙ sym (judged-on (inRange s) (s .halted) s carried (w .0) (w .1)))

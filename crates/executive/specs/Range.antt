@@ -1,11 +1,12 @@
 -- Refusal 16 on the columns that it looks at: each is the test of the same state in rules, Range.
-use mathlib.Core.Bool.{Bool, _&&_}
+use mathlib.Core.Bool.{Bool, cond, _&&_}
 use mathlib.Core.List.{List}
 use Prim.Native.Nat.{ℕ}
 use lib.ListN.{getD}
 use lib.Dec.{eqb, leb, ltb}
 use Rattle.rules.specs.Counting.{firstOf, allBelow}
 use Rattle.executive.specs.Marks.{anyBelow}
+use Rattle.rules.specs.Refusals.{isHalted, outOfRange}
 use Rattle.rules.specs.Sizes.{mostTasks, mostRows, longestPeriod, mostMultiple}
 
 abbrev pub sizesIn : ℕ → ℕ → ℕ → ℕ → Bool
@@ -42,3 +43,7 @@ orderIn order n = allBelow (belowIn order n) n && allBelow (hasPlaceIn order n) 
 abbrev pub tablesIn : List ℕ → List ℕ → List ℕ → List ℕ → List ℕ → List ℕ → List ℕ → ℕ → ℕ → ℕ → Bool
 tablesIn periods deadlines computes dispatches senders receivers order n m u =
     tasksIn periods deadlines computes dispatches n u && allBelow (rowIn senders receivers n) m && orderIn order n
+
+-- "Tick and completion test 16, 15, 14 in that order": the number of the first two that stands, 0 where neither does
+abbrev pub refusalOf : Bool → Bool → ℕ
+refusalOf ranged halted = cond ranged (cond halted isHalted 0) outOfRange

@@ -4,6 +4,7 @@ ghost use Rattle.rules.specs.Steps.{step};
 ghost use Rattle.rules.specs.Calls.{tickOf, completeOf};
 ghost use Rattle.rules.specs.Answers.{StepIs};
 ghost use Rattle.rules.specs.Fresh.{FreshIs};
+ghost use Rattle.executive.specs.Range.{refusalOf};
 use rules::Answer;
 use rules::State;
 use rules::Step;
@@ -51,6 +52,16 @@ pub fn fresh(tasks: &[u16], connections: &[u16]) -> Step
     }
 }
 
+// "Tick and completion test 16, 15 .. in that order": 0 where neither stands.
+fn refusal(ranged: bool, halted: bool) -> usize
+    ensures { λ r. ⌜ r ≡ refusalOf ranged halted ⌝ }
+{
+    if !ranged {
+        return 16;
+    }
+    if halted { 15 } else { 0 }
+}
+
 // "a refused tick or completion returns the state it was given"
 fn refused(s: State, number: usize) -> Step
     ensures { λ r. ⌜ r ≡ step (Answer.Refused number 0) s ⌝ }
@@ -68,7 +79,7 @@ pub fn tick(s: State) -> Step
     let n = z.count;
     let u = z.multiple;
     let t = z.cycle;
-    if !in_range(
+    let ranged = in_range(
         &z.periods,
         &z.deadlines,
         &z.computes,
@@ -80,11 +91,10 @@ pub fn tick(s: State) -> Step
         z.rows,
         u,
         t,
-    ) {
-        return refused(z, 16);
-    }
-    if z.halted {
-        return refused(z, 15);
+    );
+    let k = refusal(ranged, z.halted);
+    if 0 < k {
+        return refused(z, k);
     }
     let mut due = [false; 32];
     let mut released = [false; 32];
@@ -122,7 +132,7 @@ pub fn complete(s: State, word: u32) -> Step
     let n = z.count;
     let u = z.multiple;
     let t = z.cycle;
-    if !in_range(
+    let ranged = in_range(
         &z.periods,
         &z.deadlines,
         &z.computes,
@@ -134,11 +144,10 @@ pub fn complete(s: State, word: u32) -> Step
         z.rows,
         u,
         t,
-    ) {
-        return refused(z, 16);
-    }
-    if z.halted {
-        return refused(z, 15);
+    );
+    let k = refusal(ranged, z.halted);
+    if 0 < k {
+        return refused(z, k);
     }
     let tasks = z.tasks;
     let c = choose(tasks, &z.order, n);

@@ -10,6 +10,7 @@ pub mod Refusals
 pub mod Order
 pub mod Plans
 pub mod Answers
+pub mod Fresh
 pub mod Steps
 pub mod Range
 pub mod Kept

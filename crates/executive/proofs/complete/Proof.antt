@@ -1,7 +1,7 @@
 -- `complete` meets its contract. The range is tested first, as for a tick; the first choice names the running task, whose word goes
 -- out, and the second one is made on the state without it. Assumes nothing.
 use mathlib.Core.Path.{_≡_, ap, sym, _∙_}
-use mathlib.Core.Bool.{true}
+use mathlib.Core.Bool.{Bool, true}
 use Prim.Native.Nat.{ℕ}
 use native.Mathlib.Omega.{arith}
 use borrow.Author.Needs.{needs}
@@ -11,12 +11,13 @@ use Rattle.rules.specs.Steps.{running, chosen, endedAt, completing}
 use Rattle.rules.specs.declared.State.{State}
 use Rattle.rules.proofs.Steps.{endedAt-plan, completing-none, completing-on}
 use Rattle.rules.proofs.Range.{Ranged, inRange-parts, inRange-ranged}
-use Rattle.executive.proofs.Judging.{refused-range, refused-halted, carried-out}
+use Rattle.executive.specs.Range.{refusalOf}
+use Rattle.executive.proofs.Judging.{in-range-by, refused-by, carried-out}
 use Rattle.executive.proofs.Choices.{chosen-below, orderly}
 use Rattle.executive.proofs.complete.Statement.{statement}
 use Rattle.executive.proofs.complete.Tie as tie
 
--- the state given, and the range test on it
+-- the state given, and the number of the refusal that stands, if one does
 abbrev state : tie.After-in-range → State
 state c = c .before .before .before .before .before .before .before .before .before .args .s
 
@@ -26,33 +27,31 @@ word c = c .before .before .before .before .before .before .before .before .befo
 tested : (c : tie.After-in-range) → c .in-range .result ≡ inRange (state c)
 tested c = c .in-range .ensures ∙ sym (inRange-parts (state c))
 
-within : (c : tie.Else1) → inRange (state (c .before)) ≡ true
-within c = sym (tested (c .before)) ∙ not-false _ (c .if1 .left)
+number : (c : tie.After-refusal) → c .refusal .result ≡ refusalOf (inRange (state (c .before))) (state (c .before) .halted)
+number c = c .refusal .ensures ∙ ap (λ (b : Bool). refusalOf b (state (c .before) .halted)) (tested (c .before))
 
-ranged : (c : tie.Else2) → Ranged (state (c .before .before))
-ranged c = inRange-ranged (state (c .before .before)) (within (c .before))
+ranged : (c : tie.Else1) → Ranged (state (c .before .before))
+ranged c =
+    let s = state (c .before .before) in
+    inRange-ranged s (in-range-by s (c .before .refusal .result) (number (c .before)) (c .if1 .left))
 
 in-range-requires : tie.Need-in-range-requires
 in-range-requires c κs = search needs
+
+refusal-requires : tie.Need-refusal-requires
+refusal-requires c κs = search needs
 
 refused-requires : tie.Need-refused-requires
 refused-requires c κs = search needs
 
 returns : tie.Need-returns
 returns c =
-    let s = state (c .before .before) in
-    refused-range s (completing s (word (c .before .before))) (c .refused .result) (sym (tested (c .before .before)) ∙ not-true _ (c .before .if1 .taken)) (c .refused .ensures)
-
-refused-requires-2 : tie.Need-refused-requires-2
-refused-requires-2 c κs = search needs
-
-returns-2 : tie.Need-returns-2
-returns-2 c =
-    let s = state (c .before .before .before) in
-    refused-halted s (completing s (word (c .before .before .before))) (c .refused2 .result) (within (c .before .before)) (c .before .if2 .taken) (c .refused2 .ensures)
+    let k = c .before .before in
+    let s = state (k .before) in
+    refused-by s (k .refusal .result) (number k) (completing s (word (k .before))) (c .refused .result) (c .before .if1 .taken) (c .refused .ensures)
 
 -- the running task
-abbrev live : tie.After-choose → tie.Else2
+abbrev live : tie.After-choose → tie.Else1
 live c = c .before .before .before .before
 
 abbrev given : tie.After-choose → State
@@ -67,21 +66,21 @@ choose-requires c κs =
     let few = r .sizes .few in
     (few, λ k h. omega (arith, r .names-task k h))
 
-refused-requires-3 : tie.Need-refused-requires-3
-refused-requires-3 c κs = search needs
+refused-requires-2 : tie.Need-refused-requires-2
+refused-requires-2 c κs = search needs
 
-returns-3 : tie.Need-returns-3
-returns-3 c =
+returns-2 : tie.Need-returns-2
+returns-2 c =
     let ch = c .before .before .before in
     let s = given ch in
-    carried-out s (completing s (said ch)) (c .refused3 .result) (within (live ch .before)) (live ch .if2 .left)
-    (c .refused3 .ensures ∙ sym (completing-none s (said ch) (sym (ch .choose .ensures .some-is) ∙ not-true _ (c .before .if3 .taken))))
+    carried-out s (live ch .before .refusal .result) (number (live ch .before)) (completing s (said ch)) (c .refused2 .result) (live ch .if1 .left)
+    (c .refused2 .ensures ∙ sym (completing-none s (said ch) (sym (ch .choose .ensures .some-is) ∙ not-true _ (c .before .if2 .taken))))
 
-abbrev choice : tie.Else3 → tie.After-choose
+abbrev choice : tie.Else2 → tie.After-choose
 choice c = c .before .before
 
-some : (c : tie.Else3) → choice c .choose .result .some ≡ true
-some c = not-false _ (c .if3 .left)
+some : (c : tie.Else2) → choice c .choose .result .some ≡ true
+some c = not-false _ (c .if2 .left)
 
 ended-requires : tie.Need-ended-requires
 ended-requires c κs =
@@ -105,12 +104,12 @@ run-requires c κs =
     let s = given ch in
     orderly s (endedAt s (running s) (said ch)) (c .ended .result) (ended-is c) (endedAt-plan s (running s) (said ch)) (ranged (live ch))
 
-returns-4 : tie.Need-returns-4
-returns-4 c =
+returns-3 : tie.Need-returns-3
+returns-3 c =
     let e = c .before in
     let ch = choice (e .before) in
     let s = given ch in
-    carried-out s (completing s (said ch)) (c .run .result) (within (live ch .before)) (live ch .if2 .left)
+    carried-out s (live ch .before .refusal .result) (number (live ch .before)) (completing s (said ch)) (c .run .result) (live ch .if1 .left)
     (c .run .ensures
     ∙ (ap chosen (ended-is e) ∙ sym (completing-on s (said ch) (sym (ch .choose .ensures .some-is) ∙ some (e .before)))))
 
@@ -119,13 +118,12 @@ complete-spec =
     tie.close
     (tie.spec
     in-range-requires
+    refusal-requires
     refused-requires
     returns
+    choose-requires
     refused-requires-2
     returns-2
-    choose-requires
-    refused-requires-3
-    returns-3
     ended-requires
     run-requires
-    returns-4)
+    returns-3)

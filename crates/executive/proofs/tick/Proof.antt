@@ -9,7 +9,6 @@ use Prim.Native.Nat.{ℕ, _≤_}
 use native.Mathlib.Omega.{arith}
 use lib.ListN.{replicate}
 use borrow.Author.Needs.{needs}
-use borrow.Author.Tests.{not-true, not-false}
 use Rattle.rules.specs.Range.{inRange}
 use Rattle.rules.specs.Steps.{step, falls, released, missing, delivered, dispatched, chosen, advanced, ticking}
 use Rattle.rules.specs.Views.{setCycle, setHalted}
@@ -19,45 +18,44 @@ use Rattle.rules.proofs.Steps.{advanced-plan, ticking-missed, ticking-on}
 use Rattle.rules.proofs.Kept.{plan-trans, exchanged-kept}
 use Rattle.rules.proofs.Range.{Ranged, inRange-parts, inRange-ranged}
 use Rattle.executive.specs.Marks.{marked, Tells}
+use Rattle.executive.specs.Range.{refusalOf}
 use Rattle.executive.specs.Columns.{Exchanges}
 use Rattle.executive.proofs.Marks.{puts-tells, anyBelow-same, anyBelow-none, or-left, or-right}
-use Rattle.executive.proofs.Judging.{refused-range, refused-halted, carried-out}
+use Rattle.executive.proofs.Judging.{in-range-by, refused-by, carried-out}
 use Rattle.executive.proofs.Copies.{missing-is, exchanged-none, advanced-is}
 use Rattle.executive.proofs.Choices.{orderly}
 use Rattle.executive.proofs.tick.Statement.{statement}
 use Rattle.executive.proofs.tick.Tie as tie
 
--- the state given, and the range test on it
+-- the state given, and the number of the refusal that stands, if one does
 abbrev state : tie.After-in-range → State
 state c = c .before .before .before .before .before .before .before .before .before .args .s
 
 tested : (c : tie.After-in-range) → c .in-range .result ≡ inRange (state c)
 tested c = c .in-range .ensures ∙ sym (inRange-parts (state c))
 
-within : (c : tie.Else1) → inRange (state (c .before)) ≡ true
-within c = sym (tested (c .before)) ∙ not-false _ (c .if1 .left)
+number : (c : tie.After-refusal) → c .refusal .result ≡ refusalOf (inRange (state (c .before))) (state (c .before) .halted)
+number c = c .refusal .ensures ∙ ap (λ (b : Bool). refusalOf b (state (c .before) .halted)) (tested (c .before))
 
-ranged : (c : tie.Else2) → Ranged (state (c .before .before))
-ranged c = inRange-ranged (state (c .before .before)) (within (c .before))
+ranged : (c : tie.Else1) → Ranged (state (c .before .before))
+ranged c =
+    let s = state (c .before .before) in
+    inRange-ranged s (in-range-by s (c .before .refusal .result) (number (c .before)) (c .if1 .left))
 
 in-range-requires : tie.Need-in-range-requires
 in-range-requires c κs = search needs
+
+refusal-requires : tie.Need-refusal-requires
+refusal-requires c κs = search needs
 
 refused-requires : tie.Need-refused-requires
 refused-requires c κs = search needs
 
 returns : tie.Need-returns
 returns c =
-    let s = state (c .before .before) in
-    refused-range s (ticking s) (c .refused .result) (sym (tested (c .before .before)) ∙ not-true _ (c .before .if1 .taken)) (c .refused .ensures)
-
-refused-requires-2 : tie.Need-refused-requires-2
-refused-requires-2 c κs = search needs
-
-returns-2 : tie.Need-returns-2
-returns-2 c =
-    let s = state (c .before .before .before) in
-    refused-halted s (ticking s) (c .refused2 .result) (within (c .before .before)) (c .before .if2 .taken) (c .refused2 .ensures)
+    let k = c .before .before in
+    let s = state (k .before) in
+    refused-by s (k .refusal .result) (number k) (ticking s) (c .refused .result) (c .before .if1 .taken) (c .refused .ensures)
 
 mark-requires : tie.Need-mark-requires
 mark-requires c κs =
@@ -71,7 +69,7 @@ mark-requires c κs =
     )
 
 -- the marks
-abbrev live : tie.After-mark → tie.Else2
+abbrev live : tie.After-mark → tie.Else1
 live c = c .before .before .before .before .before .before
 
 abbrev given : tie.After-mark → State
@@ -111,22 +109,22 @@ first-missing-requires c κs =
     let s = given m in
     (ranged (live m) .sizes .few, m .mark .ensures .some-due ∙ anyBelow-same (falls s) (marked (due m)) (s .count) (λ i h. sym (due-tells m i h)))
 
-returns-3 : tie.Need-returns-3
-returns-3 c =
+returns-2 : tie.Need-returns-2
+returns-2 c =
     let m = marks (c .before) in
     let s = given m in
     let e = missing-at (c .before) in
-    carried-out s (ticking s) _ (within (live m .before)) (live m .if2 .left)
-    (ap (λ (i : ℕ). step (answer.Missed i) (setHalted s true)) e ∙ sym (ticking-missed s (rw e at (c .if3 .taken))))
+    carried-out s (live m .before .refusal .result) (number (live m .before)) (ticking s) _ (live m .if1 .left)
+    (ap (λ (i : ℕ). step (answer.Missed i) (setHalted s true)) e ∙ sym (ticking-missed s (rw e at (c .if2 .taken))))
 
 -- steps 2 and 3
 exchanged-requires : tie.Need-exchanged-requires
 exchanged-requires c κs = exchanges (c .before .before .before .before .before .before .before .before)
 
-abbrev found : tie.Joined4 → tie.After-first-missing
+abbrev found : tie.Joined3 → tie.After-first-missing
 found c = c .before .before .before
 
-exchanged : (c : tie.Joined4) → c .if4 .z ≡ dispatched (delivered (given (marks (found c))))
+exchanged : (c : tie.Joined3) → c .if3 .z ≡ dispatched (delivered (given (marks (found c))))
 exchanged c =
     let m = marks (found c) in
     let s = given m in
@@ -137,20 +135,20 @@ exchanged c =
     w .1
     ∙ exchanged-none s (due m) (freed m) (exchanges m) (λ i h. anyBelow-none (falls s) (s .count) i none-due h)
     (λ i h. anyBelow-none (released s) (s .count) i none-freed h))
-    (c .if4 .came)
+    (c .if3 .came)
 
-not-missed : (c : tie.Joined4) → given (marks (found c)) .count ≤ missing (given (marks (found c)))
-not-missed c = omega (arith, missing-at (found c), c .before .before .if3 .left)
+not-missed : (c : tie.Joined3) → given (marks (found c)) .count ≤ missing (given (marks (found c)))
+not-missed c = omega (arith, missing-at (found c), c .before .before .if2 .left)
 
 -- step 5, at the cycle after t
 after-requires : tie.Need-after-requires
 after-requires c κs = ranged (live (marks (found c))) .sizes .cycle-below
 
 abbrev next : tie.After-after → State
-next c = setCycle (c .before .if4 .z) (c .after .result) true
+next c = setCycle (c .before .if3 .z) (c .after .result) true
 
 next-is : (c : tie.After-after) → next c ≡ advanced (dispatched (delivered (given (marks (found (c .before))))))
-next-is c = advanced-is (given (marks (found (c .before)))) (c .before .if4 .z) (c .after .result) (exchanged (c .before)) (c .after .ensures)
+next-is c = advanced-is (given (marks (found (c .before)))) (c .before .if3 .z) (c .after .result) (exchanged (c .before)) (c .after .ensures)
 
 -- step 4
 run-requires : tie.Need-run-requires
@@ -160,12 +158,12 @@ run-requires c κs =
     let z = dispatched (delivered s) in
     orderly s (advanced z) (next c) (next-is c) (plan-trans s z (advanced z) (exchanged-kept s .plan) (advanced-plan z)) (ranged (live m))
 
-returns-4 : tie.Need-returns-4
-returns-4 c =
+returns-3 : tie.Need-returns-3
+returns-3 c =
     let a = c .before in
     let m = marks (found (a .before)) in
     let s = given m in
-    carried-out s (ticking s) (c .run .result) (within (live m .before)) (live m .if2 .left)
+    carried-out s (live m .before .refusal .result) (number (live m .before)) (ticking s) (c .run .result) (live m .if1 .left)
     (c .run .ensures ∙ (ap chosen (next-is a) ∙ sym (ticking-on s (not-missed (a .before)))))
 
 pub tick-spec : {M : Type 1} → statement M
@@ -173,14 +171,13 @@ tick-spec =
     tie.close
     (tie.spec
     in-range-requires
+    refusal-requires
     refused-requires
     returns
-    refused-requires-2
-    returns-2
     mark-requires
     first-missing-requires
-    returns-3
+    returns-2
     exchanged-requires
     after-requires
     run-requires
-    returns-4)
+    returns-3)
