@@ -1,0 +1,49 @@
+-- From the reader's answer and fresh start's to what the program makes of a file; and for a machine file and an input it prints one text:
+-- a file has one fresh start, and a refused one is printed alone.
+use mathlib.Core.Path.{_≡_, refl, sym, ap, subst, _∙_}
+use mathlib.Core.List.{List}
+use Prim.Native.Nat.{ℕ}
+use Rattle.rules.specs.Sizes.{mostTaskWords, mostRowWords}
+use Rattle.rules.specs.File.{contentsOf, taskWords, connectionWords, readOf}
+use Rattle.rules.specs.Plan.{PlanIs}
+use Rattle.rules.specs.Fresh.{startOf, FreshIs}
+use Rattle.rules.specs.Answers.{answerSays, StepIs}
+use Rattle.rules.specs.declared.Plan.{Plan}
+use Rattle.rules.specs.declared.Step.{Step}
+use Rattle.rules.specs.declared.Answer.{Answer}
+use Rattle.rules.specs.declared.Answer.the-variants as answer
+use Rattle.rules.specs.declared.Reading.{Reading}
+use Rattle.rules.specs.declared.Reading.the-variants as reading
+use Rattle.rules.proofs.Answers.{answerSays-injective, step-one}
+use Rattle.rules.proofs.Plans.{plan-one}
+use Rattle.text.specs.Lines.{answerLine}
+use Rattle.step.specs.Opening.{Opens, OpenIs, runText, RunIs}
+
+pub open-refused : (file : List ℕ) (n p : ℕ) (r : Step) → readOf file mostTaskWords mostRowWords ≡ reading.Refused n p → r .answer ≡ answer.Refused n p → OpenIs file r
+open-refused file n p r e h = rw e (ap answerSays h)
+
+pub open-fresh : (file : List ℕ) (t c : ℕ) (r : Step) → readOf file mostTaskWords mostRowWords ≡ reading.Read t c → FreshIs (taskWords (contentsOf file)) (connectionWords (contentsOf file)) r → OpenIs file r
+open-fresh file t c r e h = rw e h
+
+fresh-one : (tw cw : List ℕ) (r q : Step) → FreshIs tw cw r → FreshIs tw cw q → r ≡ q
+fresh-one tw cw r q a b =
+    step-one (startOf tw cw (b .plan) (b .plan .verdict)) r q
+    (subst (λ (p : Plan). StepIs (startOf tw cw p (p .verdict)) r) (plan-one tw cw (a .plan) (b .plan) (a .planned) (b .planned)) (a .starts)) (b .starts)
+
+-- a refused file's start is told by its answer alone
+refusal-text : (r : Step) (n p : ℕ) (input : List ℕ) → r .answer ≡ answer.Refused n p → runText r (r .answer) input ≡ answerLine (answer.Refused n p)
+unfolding runText
+refusal-text r n p input e = ap (λ (a : Answer). runText r a input) e
+
+one : (tw cw : List ℕ) (x : Reading) (input : List ℕ) (r q : Step) → Opens tw cw x r → Opens tw cw x q → runText r (r .answer) input ≡ runText q (q .answer) input
+one tw cw (reading.Read t c) input r q a b = ap (λ (s : Step). runText s (s .answer) input) (fresh-one tw cw r q a b)
+one tw cw (reading.Refused n p) input r q a b =
+    refusal-text r n p input (answerSays-injective (r .answer) (answer.Refused n p) a)
+    ∙ sym (refusal-text q n p input (answerSays-injective (q .answer) (answer.Refused n p) b))
+
+-- for a machine file and an input the program prints one text
+pub run-one : (file input a b : List ℕ) → RunIs file input a → RunIs file input b → a ≡ b
+run-one file input a b x y =
+    x .2
+    ∙ one (taskWords (contentsOf file)) (connectionWords (contentsOf file)) (readOf file mostTaskWords mostRowWords) input (x .0) (y .0) (x .1) (y .1)
+    ∙ sym (y .2)
