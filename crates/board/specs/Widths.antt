@@ -1,0 +1,14 @@
+-- How many values a narrow word can have: a time is of 16 bits, a criticality and a task number of 8, a mark is 0 or 1, a phase 0 to 2.
+use Prim.Native.Nat.{ℕ}
+
+abbrev pub times : ℕ
+times = 65536
+
+abbrev pub bytes : ℕ
+bytes = 256
+
+abbrev pub marks : ℕ
+marks = 2
+
+abbrev pub phases : ℕ
+phases = 3
