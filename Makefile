@@ -1,9 +1,48 @@
-# make test   the gate: layout, proofs, must-fail edits and stored runs
-# make run    shows what the rules say today
+# make test      the gate: layout, proofs, must-fail edits, stored runs, comparisons; its last line is 'N passed, M failed'
+# make run       builds the two programs and shows them on the session of document 01
+# make compare   compares any number of cases with the second program: make compare CASES=100000 SEED=7
+# make bench     compares speed with C and writes docs/SPEED.md (needs valgrind; clang where there is one)
 
-CHECKS = rt fmt --check\nrt ci\ntests/rules-table\n
+CASES = 20000
+SEED = 1
+COMPARE = target/compare
+BUILD_COMPARE = rt staticlib board && rustc --edition 2021 -O -D warnings --cfg board -L target/staticlib -l static=board -o $(COMPARE) second/src/main.rs
+PROGRAMS = --list target/bin/list --step target/bin/step
 
-.PHONY: test run
+define CHECKS
+rt fmt --check
+rt ci
+tests/rules-table
+machines/make.py --check
+tests/programs.py
+$(BUILD_COMPARE)
+$(COMPARE) self --cases 1000 --seed 1
+$(COMPARE) power --seed 1
+$(COMPARE) programs $(PROGRAMS) --cases 500 --seed 1
+$(COMPARE) board --cases 3000 --seed 1
+make --no-print-directory -C examples check
+endef
+export CHECKS
+
+.PHONY: test run compare bench
 
 test:
-	@printf '$(CHECKS)' | tests/gate
+	@printf '%s\n' "$$CHECKS" | tests/gate
+
+run:
+	@mkdir -p target
+	@rt check list step >target/run.log 2>&1 || { cat target/run.log; exit 1; }
+	@echo '$$ list < machines/session.machine'
+	@target/bin/list <machines/session.machine
+	@echo '$$ step machines/session.machine < tests/step/session.twenty-ticks.in'
+	@target/bin/step machines/session.machine <tests/step/session.twenty-ticks.in
+
+compare:
+	rt check list step
+	$(BUILD_COMPARE)
+	$(COMPARE) programs $(PROGRAMS) --cases $(CASES) --seed $(SEED)
+	$(COMPARE) board --cases $(CASES) --seed $(SEED)
+
+bench:
+	rt check bench
+	bench/run

@@ -32,7 +32,7 @@ def run(command, stdin):
 def expect(what, got, want):
     results[got == want] += 1
     if got != want:
-        print(f'{what}: printed {got[:200]!r}, not {want[:200]!r}')
+        print(f'{what}: printed {repr(got)[:200]}, not {repr(want)[:200]}')
 
 
 def stored():
