@@ -36,6 +36,8 @@ def expect(what, got, want):
 
 
 def stored():
+    made = subprocess.run([sys.executable, os.path.join(ROOT, 'machines', 'make.py'), '--check'], stdout=subprocess.DEVNULL)
+    expect('the machine files', made.returncode, 0)
     for name in sorted(os.listdir(os.path.join(ROOT, 'tests', 'list'))):
         name = name[:-len('.out')]
         expect(f'list {name}', run([LIST], content('machines', name + '.machine')), content('tests', 'list', name + '.out'))

@@ -3,7 +3,7 @@ use mathlib.Core.Path.{_≡_, sym, ap, subst, _∙_}
 use mathlib.Core.List.{List}
 use Prim.Native.Nat.{ℕ, _≤_, _<_}
 use native.Mathlib.Omega.{arith}
-use lib.ListN.{getD}
+use lib.ListN.{getD, take}
 use Rattle.rules.specs.Sizes.{mostTasks, mostTaskWords, mostRowWords}
 use Rattle.rules.specs.Tables.{count}
 use Rattle.rules.specs.File.{contentsOf, taskWords, connectionWords, readOf}
@@ -13,6 +13,7 @@ use Rattle.rules.specs.declared.Verdict.{Verdict}
 use Rattle.rules.specs.declared.Verdict.the-variants.{Accepted}
 use Rattle.rules.specs.declared.Reading.{Reading}
 use Rattle.rules.specs.declared.Reading.the-variants as reading
+use Rattle.rules.proofs.FileFront.{decisive, contents-front, read-front}
 use Rattle.rules.proofs.Plans.{plan-one}
 use Rattle.list.specs.Listing.{refusalLine, planText, Lists, ListIs}
 
@@ -37,3 +38,7 @@ one tw cw (reading.Refused n q) a b x y = x ∙ sym y
 -- a file has one listing
 pub list-one : (file a b : List ℕ) → ListIs file a → ListIs file b → a ≡ b
 list-one file a b x y = one (taskWords (contentsOf file)) (connectionWords (contentsOf file)) (readOf file mostTaskWords mostRowWords) a b x y
+
+-- the first 643 bytes of a file decide its listing, so the program may read no further
+pub list-front : (m : ℕ) (file text : List ℕ) → decisive ≤ m → ListIs (take m file) text → ListIs file text
+list-front m file text h l = rw (contents-front m file h, read-front m file mostTaskWords mostRowWords h) at l

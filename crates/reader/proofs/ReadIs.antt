@@ -86,10 +86,10 @@ module _ {file tasks connections tasks' connections' : List ℕ} where
   pub read-answer : {r : Reading} → ReadIs file tasks connections r tasks' connections' → asked file tasks connections ≡ r
   read-answer {r} h = sym (readingSays-injective r (asked file tasks connections) (h .told))
 
-  pub read-accepted-tables : {t c : ℕ} → ReadIs file tasks connections (reading.Read t c) tasks' connections' → Accepted file t c tasks' connections'
+  pub read-tables : {r : Reading} {t c : ℕ} → ReadIs file tasks connections r tasks' connections' → r ≡ reading.Read t c → Accepted file t c tasks' connections'
   unfolding filled
-  read-accepted-tables {t} {c} h =
-      let e = read-answer h in
+  read-tables {t = t} {c = c} h q =
+      let e = read-answer h ∙ q in
       byTest (short tasks connections) (λ s. absurd (refused-read (sym (asked-short file tasks connections s) ∙ e)))
       (λ s.
       let k = contents-counts file t c (sym (asked-contents file tasks connections s) ∙ e) in

@@ -2,7 +2,8 @@
 -- a file has one fresh start, and a refused one is printed alone.
 use mathlib.Core.Path.{_≡_, refl, sym, ap, subst, _∙_}
 use mathlib.Core.List.{List}
-use Prim.Native.Nat.{ℕ}
+use Prim.Native.Nat.{ℕ, _≤_}
+use lib.ListN.{take}
 use Rattle.rules.specs.Sizes.{mostTaskWords, mostRowWords}
 use Rattle.rules.specs.File.{contentsOf, taskWords, connectionWords, readOf}
 use Rattle.rules.specs.Plan.{PlanIs}
@@ -15,6 +16,7 @@ use Rattle.rules.specs.declared.Answer.the-variants as answer
 use Rattle.rules.specs.declared.Reading.{Reading}
 use Rattle.rules.specs.declared.Reading.the-variants as reading
 use Rattle.rules.proofs.Answers.{answerSays-injective, step-one}
+use Rattle.rules.proofs.FileFront.{decisive, contents-front, read-front}
 use Rattle.rules.proofs.Plans.{plan-one}
 use Rattle.text.specs.Lines.{answerLine}
 use Rattle.step.specs.Opening.{Opens, OpenIs, runText, RunIs}
@@ -40,6 +42,10 @@ one tw cw (reading.Read t c) input r q a b = ap (λ (s : Step). runText s (s .an
 one tw cw (reading.Refused n p) input r q a b =
     refusal-text r n p input (answerSays-injective (r .answer) (answer.Refused n p) a)
     ∙ sym (refusal-text q n p input (answerSays-injective (q .answer) (answer.Refused n p) b))
+
+-- the first 643 bytes of a file decide its start, so the program may read no further
+pub open-front : (m : ℕ) (file : List ℕ) (r : Step) → decisive ≤ m → OpenIs (take m file) r → OpenIs file r
+open-front m file r h l = rw (contents-front m file h, read-front m file mostTaskWords mostRowWords h) at l
 
 -- for a machine file and an input the program prints one text
 pub run-one : (file input a b : List ℕ) → RunIs file input a → RunIs file input b → a ≡ b

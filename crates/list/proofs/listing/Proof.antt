@@ -1,6 +1,7 @@
 -- A refused file is one line. An accepted one has its words in front of both tables, so the plan is that of the file's words, and its order
 -- names tasks only.
 use mathlib.Core.Path.{_≡_, sym, _∙_}
+use mathlib.Core.List.{List}
 use Prim.Native.Nat.{ℕ, _≤_}
 use native.Mathlib.Omega.{arith}
 use lib.ListN.{length}
@@ -8,25 +9,37 @@ use lib.Seq.{length-take-le}
 use borrow.Author.Needs.{needs}
 use Rattle.rules.specs.File.{contentsOf, taskWords, connectionWords}
 use Rattle.rules.specs.Plan.{PlanIs}
-use Rattle.reader.proofs.ReadIs.{Accepted, read-answer, read-accepted-tables}
+use Rattle.reader.proofs.ReadIs.{Accepted, read-answer, read-tables}
 use Rattle.text.proofs.Filling.{put-counts, put-front}
 use Rattle.text.proofs.Lengths.{mostAnswer, answer-length, line-put}
 use Rattle.list.proofs.Listed.{list-refused, list-planned, plan-names}
 use Rattle.list.proofs.listing.Statement.{statement}
 use Rattle.list.proofs.listing.Tie as tie
 
-accepted : (c : tie.After-known-told) → Accepted (c .before .before .before .before .before .before .before .before .before .before .args .file .now) (c .before .read2 .given .0 .0) (c .before .read2 .given .0 .1 .0) (c .before .before .before .before .before .read .last .1 .0) (c .before .before .before .before .before .read .last .1 .1 .0)
-accepted c = read-accepted-tables (rw (c .before .read2 .given .1) at (c .before .before .before .before .before .read .ensures))
+-- a file was accepted, with its words in front of both tables
+module _ (c : tie.After-known-told) where
+  abbrev answered : tie.After-read
+  answered = c .before .before .before .before .before
 
--- the buffer has room for the longest table
-room : (p : tie.After-plan) → 2720 ≤ length (p .before .before .before .before .before .before .before .before .before .before .before .before .before .args .out .now)
-room p = p .before .before .before .before .before .before .before .before .before .before .before .before .before .pre
+  abbrev from-file : tie.Start
+  from-file = answered .before .before .before .before .before
 
--- the plan is that of the file's words
-planned : (p : tie.After-plan) → PlanIs (taskWords (contentsOf (p .before .before .before .before .before .before .before .before .before .before .before .before .before .args .file .now))) (connectionWords (contentsOf (p .before .before .before .before .before .before .before .before .before .before .before .before .before .args .file .now))) (p .plan .result)
-planned p =
-    let a = accepted (p .before .before .before) in
-    rw (a .task-front, a .row-front) at (p .plan .ensures)
+  accepted : Accepted (from-file .args .file .now) (c .before .read2 .given .0 .0) (c .before .read2 .given .0 .1 .0) (answered .read .last .1 .0) (answered .read .last .1 .1 .0)
+  accepted = read-tables (answered .read .ensures) (c .before .read2 .given .1)
+
+-- the plan is that of the file's words, and the buffer has room for the longest table
+module _ (p : tie.After-plan) where
+  abbrev start : tie.Start
+  start = from-file (p .before .before .before)
+
+  abbrev file : List ℕ
+  file = start .args .file .now
+
+  planned : PlanIs (taskWords (contentsOf file)) (connectionWords (contentsOf file)) (p .plan .result)
+  planned = let a = accepted (p .before .before .before) in rw (a .task-front, a .row-front) at (p .plan .ensures)
+
+  room : 2720 ≤ length (start .args .out .now)
+  room = start .pre
 
 slice-aggregate-read : tie.Need-slice-aggregate-read
 slice-aggregate-read c = search needs

@@ -9,6 +9,7 @@ use Rattle.text.proofs.Lengths.{mostAnswer, answer-length, line-put}
 use Rattle.list.proofs.plan_text.Statement.{statement}
 use Rattle.list.proofs.plan_text.Tie as tie
 
+-- the head stands in front
 headed : (h : tie.After-table-head) → Put 32 (h .before .before .before .before .before .args .out .now) 0 tableHead (h .table-head .result) (h .table-head .last .0)
 headed h = line-put 32 (omega arith) (omega arith) (h .table-head .ensures)
 

@@ -6,6 +6,7 @@ use Rattle.text.proofs.Lengths.{mostAnswer, answer-length, line-put}
 use Rattle.step.proofs.say.Statement.{statement}
 use Rattle.step.proofs.say.Tie as tie
 
+-- the line fits, so its count is that of a part of the buffer
 shown : (l : tie.After-answer-line) → Counts (l .answer-line .result) (l .answer-line .last .1 .0)
 shown l = put-counts {at = 0} (search needs) (line-put mostAnswer (answer-length _) (search needs) (l .answer-line .ensures))
 

@@ -14,6 +14,7 @@ use Rattle.text.proofs.Filling.{put-whole}
 use Rattle.text.proofs.put_answer.Statement.{statement}
 use Rattle.text.proofs.put_answer.Tie as tie
 
+-- an answer that is neither Running nor Missed nor Refused; 0 to 3 are the tags of Running, Idle, Missed and Refused
 only-idle : (a : Answer) → OneOf (1 ∷ 2 ∷ 3 ∷ []) (tagOf the-type a) → OneOf (0 ∷ 1 ∷ 3 ∷ []) (tagOf the-type a) → OneOf (0 ∷ 1 ∷ 2 ∷ []) (tagOf the-type a) → a ≡ answer.Idle
 only-idle (answer.Running i) x y z = absurd (⊎-elim (λ e. omega arith) (λ w. ⊎-elim (λ e. omega arith) (λ e. omega arith) w) x)
 only-idle answer.Idle x y z = refl

@@ -10,34 +10,28 @@ use Rattle.step.proofs.Lines.{field-length}
 use Rattle.step.proofs.held.asked.Statement.{statement}
 use Rattle.step.proofs.held.asked.Tie as tie
 
+-- the array of the line that was passed has its 13 bytes
 thirteen : (s : tie.Start) → length (s .args .h .bytes) ≡ mostKept
 thirteen s = field-length mostKept (s .args .h .bytes) (s .good .0 .1 .1 .0 .1 .0 .1)
 
--- src/held.rt:42:24
 array-share-prefix-bytes : tie.Need-array-share-prefix-bytes
 array-share-prefix-bytes c = let e = thirteen (c .before .before) in omega arith
 
--- src/held.rt:42:24
 slice-aggregate-call-of : tie.Need-slice-aggregate-call-of
 slice-aggregate-call-of c = let e = thirteen (c .before .before .before) in sym (length-take-le _ _ (omega arith))
 
--- src/held.rt:42:9
 call-of-requires : tie.Need-call-of-requires
 call-of-requires c κs = search needs
 
--- src/held.rt:44:24
 slice-aggregate-call-of-2 : tie.Need-slice-aggregate-call-of-2
 slice-aggregate-call-of-2 c = search needs
 
--- src/held.rt:44:9
 call-of-requires-2 : tie.Need-call-of-requires-2
 call-of-requires-2 c κs = search needs
 
--- src/held.rt:36:1
 returns : tie.Need-returns
 returns c = search needs
 
--- src/held.rt:36:1
 returns-2 : tie.Need-returns-2
 returns-2 c =
     let s = c .before .before .before .before in

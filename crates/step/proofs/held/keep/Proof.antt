@@ -7,22 +7,19 @@ use Rattle.step.proofs.Lines.{keep-room, keep-full}
 use Rattle.step.proofs.held.keep.Statement.{statement}
 use Rattle.step.proofs.held.keep.Tie as tie
 
+-- the array of the line that was passed has its 13 bytes
 thirteen : (s : tie.Start) → length (s .args .h .bytes) ≡ mostKept
 thirteen s = search needs
 
--- src/held.rt:28:9
 array-write-bytes : tie.Need-array-write-bytes
 array-write-bytes c = search needs
 
--- src/held.rt:29:30
 add-t10 : tie.Need-add-t10
 add-t10 c = search needs
 
--- src/held.rt:22:1
 returns : tie.Need-returns
 returns c = keep-room _ _ _ (thirteen (c .before .before)) (c .if1 .taken)
 
--- src/held.rt:22:1
 returns-2 : tie.Need-returns-2
 returns-2 c = keep-full _ _ _ (thirteen (c .before .before)) (c .if1 .left)
 

@@ -11,26 +11,22 @@ use Rattle.step.proofs.Turns.{finish-none, finish-line}
 use Rattle.step.proofs.serving.finish.Statement.{statement}
 use Rattle.step.proofs.serving.finish.Tie as tie
 
+-- the array of the line that has begun has its 13 bytes
 thirteen : (s : tie.Start) → length (s .args .desk .line .bytes) ≡ mostKept
 thirteen s = search needs
 
--- src/serving.rt:98:9
 returns : tie.Need-returns
 returns c = (finish-none _ _ _ _ (c .if1 .taken), (omega arith, refl))
 
--- src/serving.rt:100:25
 asked-requires : tie.Need-asked-requires
 asked-requires c κs = search needs
 
--- src/serving.rt:100:9
 obey-requires : tie.Need-obey-requires
 obey-requires c κs = search needs
 
--- src/serving.rt:89:1
 same-length : tie.Need-same-length
 same-length c = search needs
 
--- src/serving.rt:89:1
 returns-2 : tie.Need-returns-2
 returns-2 c =
     let o = c .before .before in

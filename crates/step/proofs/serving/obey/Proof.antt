@@ -11,39 +11,30 @@ use Rattle.step.proofs.serving.obey.Tie as tie
 enum-told : tie.Need-enum-told
 enum-told c = search needs
 
--- src/serving.rt:51:31
 tick-requires : tie.Need-tick-requires
 tick-requires c κs = search needs
 
--- src/serving.rt:51:23
 printed-requires : tie.Need-printed-requires
 printed-requires c κs = search needs
 
--- src/serving.rt:52:24
 enum-known-call : tie.Need-enum-known-call
 enum-known-call c = search needs
 
--- src/serving.rt:52:41
 complete-requires : tie.Need-complete-requires
 complete-requires c κs = search needs
 
--- src/serving.rt:52:33
 printed-requires-2 : tie.Need-printed-requires-2
 printed-requires-2 c κs = search needs
 
--- src/serving.rt:54:38
 enum-told-2 : tie.Need-enum-told-2
 enum-told-2 c = search needs
 
--- src/serving.rt:54:17
 bad-line-requires : tie.Need-bad-line-requires
 bad-line-requires c κs = search needs
 
--- src/serving.rt:46:1
 same-length : tie.Need-same-length
 same-length c = search needs
 
--- src/serving.rt:46:1
 returns : tie.Need-returns
 unfolding obeyed
 returns c =
@@ -51,11 +42,9 @@ returns c =
     let t = p .before .before in
     rw (t .before .enum-told .given .1) (prints-step _ _ (t .tick .ensures) (p .printed .ensures))
 
--- src/serving.rt:46:1
 same-length-2 : tie.Need-same-length-2
 same-length-2 c = search needs
 
--- src/serving.rt:46:1
 returns-2 : tie.Need-returns-2
 unfolding obeyed
 returns-2 c =
@@ -63,11 +52,9 @@ returns-2 c =
     let t = p .before .before in
     rw (t .before .before .call .given .1) (prints-step _ _ (t .complete .ensures) (p .printed2 .ensures))
 
--- src/serving.rt:46:1
 same-length-3 : tie.Need-same-length-3
 same-length-3 c = search needs
 
--- src/serving.rt:46:1
 returns-3 : tie.Need-returns-3
 unfolding obeyed
 returns-3 c =

@@ -9,11 +9,9 @@ use Rattle.step.proofs.serving.printed.Tie as tie
 answer-line-requires : tie.Need-answer-line-requires
 answer-line-requires c κs = search needs
 
--- src/serving.rt:35:1
 same-length : tie.Need-same-length
 same-length c = search needs
 
--- src/serving.rt:35:1
 returns : tie.Need-returns
 returns c =
     let l = c .before .before in

@@ -18,35 +18,27 @@ Inv-loop bytes out₀ state₀ line₀ going end₀ i₀ out state line end i = 
 abbrev μ-loop : tie.MeasureT-loop
 μ-loop bytes out₀ state₀ line₀ going end₀ i₀ out state line end i = length bytes - i
 
--- src/serving.rt:71:5
 loop-holds : tie.Need-loop-holds Inv-loop μ-loop
 loop-holds c = turn-start _ _ _ _
 
--- src/serving.rt:72:17
 shared-slice-read-b : tie.Need-shared-slice-read-b Inv-loop μ-loop
 shared-slice-read-b c = search needs
 
--- src/serving.rt:74:33
 asked-requires : tie.Need-asked-requires Inv-loop μ-loop
 asked-requires c κs = search needs
 
--- src/serving.rt:74:17
 obey-requires : tie.Need-obey-requires Inv-loop μ-loop
 obey-requires c κs = let t = c .before .before .before .before .before .loop .inv in omega (arith, t .lines .short, t .room)
 
--- src/serving.rt:78:13
 nothing-requires : tie.Need-nothing-requires Inv-loop μ-loop
 nothing-requires c κs = search needs
 
--- src/serving.rt:79:13
 add-i : tie.Need-add-i Inv-loop μ-loop
 add-i c = search needs
 
--- src/serving.rt:71:5
 loop-less : tie.Need-loop-less Inv-loop μ-loop
 loop-less c = search needs
 
--- src/serving.rt:71:5
 loop-again : tie.Need-loop-again Inv-loop μ-loop
 loop-again c =
     let o = c .before .before .before .before in
@@ -55,29 +47,23 @@ loop-again c =
     let l = k .before .before .before in
     turn-ends (l .loop .inv) (k .before .before .loop-test .taken) _ _ _ (k .if1 .taken) (rw (a .asked .ensures) at (o .obey .ensures)) (o .obey .kept .1 .1 .0) (c .nothing .ensures)
 
--- src/serving.rt:81:13
 keep-requires : tie.Need-keep-requires Inv-loop μ-loop
 keep-requires c κs = search needs
 
--- src/serving.rt:82:13
 add-i-2 : tie.Need-add-i-2 Inv-loop μ-loop
 add-i-2 c = search needs
 
--- src/serving.rt:71:5
 loop-less-2 : tie.Need-loop-less-2 Inv-loop μ-loop
 loop-less-2 c = search needs
 
--- src/serving.rt:71:5
 loop-again-2 : tie.Need-loop-again-2 Inv-loop μ-loop
 loop-again-2 c =
     let e = c .before in
     turn-keeps (e .before .before .before .loop .inv) (e .before .before .loop-test .taken) _ (e .if1 .left) (c .keep .ensures)
 
--- src/serving.rt:61:1
 same-length : tie.Need-same-length Inv-loop μ-loop
 same-length c = c .before .loop .inv .room
 
--- src/serving.rt:61:1
 returns : tie.Need-returns Inv-loop μ-loop
 returns c =
     let d = turn-done (c .before .loop .inv) (c .loop-test .left) in
