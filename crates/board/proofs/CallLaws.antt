@@ -1,7 +1,7 @@
 -- What tick and completion promise, from what the executive promises: too few words, words that encode no state, or a call that is
 -- carried out on the state that the words encode. A call changes no table, so what it leaves can be stored around them.
-use mathlib.Core.Path.{_≡_, refl, ap, sym, _∙_}
-use mathlib.Core.Bool.{Bool, true, false, cond}
+use mathlib.Core.Path.{_≡_, refl, sym, _∙_}
+use mathlib.Core.Bool.{true, false}
 use mathlib.Core.List.{List}
 use Prim.Native.Nat.{ℕ, _≤_, _<_}
 use native.Mathlib.Omega.{arith}
@@ -11,13 +11,14 @@ use borrow.Author.Tests.{le-leb, lt-leb}
 use Rattle.rules.specs.Answers.{StepIs}
 use Rattle.rules.specs.declared.State.{State}
 use Rattle.rules.specs.declared.Step.{Step}
-use Rattle.rules.proofs.Tests.{and-not-left, and-not-right, and-both, cond-true, cond-false}
+use Rattle.rules.proofs.Tests.{and-not-left, and-not-right, and-both}
 use Rattle.rules.proofs.Answers.{step-is}
 use Rattle.rules.proofs.Steps.{SamePlan}
 use Rattle.rules.proofs.Kept.{Kept, plan-count, plan-rows}
 use Rattle.board.specs.Codes.{coded, noState}
 use Rattle.board.specs.Layout.{stateSize}
 use Rattle.board.specs.StateWords.{tableWords, stateFrom, wordsFit, encodes}
+use Rattle.board.specs.Widths.{wholes}
 use Rattle.board.specs.Parts.{decoded}
 use Rattle.board.specs.declared.decoding.Decoded.{Decoded}
 use Rattle.board.specs.Boundary.{stepSays, stepLeaves, Leavable, CallsTo}
@@ -65,7 +66,7 @@ unfolding tableWords
 same-tables s z p = rw (← p) refl
 
 pub leavable : (call : State → Step) (old : List ℕ) (x : Step) → Carried call old x → Kept (stateFrom old) (call (stateFrom old) .state) →
-    StepNarrow (call (stateFrom old)) → getD old 0 0 < 4294967296 → getD old 1 0 < 4294967296 → Leavable old x
+    StepNarrow (call (stateFrom old)) → getD old 0 0 < wholes → getD old 1 0 < wholes → Leavable old x
 unfolding stateFrom
 leavable call old x w k n a b =
     let s = stateFrom old in

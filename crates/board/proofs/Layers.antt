@@ -5,7 +5,7 @@ use mathlib.Core.List.{List, [], _∷_, _++_}
 use Prim.Native.Nat.{ℕ, suc, _+_, _≤_}
 use native.Mathlib.Omega.{arith}
 use native.Mathlib.Nat.{add-zero, add-suc, suc-add, zero-add}
-use lib.ListN.{set, length, take, drop, length-append, length-drop, take-append-drop}
+use lib.ListN.{set, length, drop, length-append, length-drop, take-append-drop}
 use lib.Seq.{sets, sets-eq, length-sets, length-take-le, take-add, drop-at}
 use Rattle.board.specs.Rows.{Lays, Part}
 

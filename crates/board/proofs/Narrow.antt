@@ -1,7 +1,7 @@
 -- No answer's parts run into each other in its number: refusals have numbers up to 16 and places up to 643, task numbers are below
 -- 32, and a reading counts up to 32 tasks and 64 connections.
-use mathlib.Core.Path.{_≡_, refl, sym, _∙_}
-use mathlib.Core.Bool.{Bool, true, false, cond, _||_}
+use mathlib.Core.Path.{_≡_, refl}
+use mathlib.Core.Bool.{Bool, true, false, _||_}
 use mathlib.Core.List.{List}
 use Prim.Native.Nat.{ℕ, zero, suc, _≤_, _<_}
 use native.Mathlib.Omega.{arith}
@@ -9,7 +9,7 @@ use lib.ListN.{length, take, length-take}
 use lib.Dec.{ltb}
 use borrow.Author.Tests.{ltb-true}
 use Rattle.rules.specs.Sizes.{mostTasks, mostRows, mostTaskWords, mostRowWords}
-use Rattle.rules.specs.Answers.{told, readingSays, answerSays, verdictSays}
+use Rattle.rules.specs.Answers.{Told, told, readingSays, answerSays, verdictSays}
 use Rattle.rules.specs.Views.{setHalted}
 use Rattle.rules.specs.Steps.{step, missing, delivered, dispatched, someRuns, running, chosen, advanced, ticking, endedAt, completing}
 use Rattle.rules.specs.Range.{inRange}
@@ -36,11 +36,22 @@ use Rattle.rules.proofs.Range.{Ranged, inRange-ranged}
 use Rattle.rules.proofs.File.{contents-ends, contents-counts}
 use Rattle.rules.proofs.FileFront.{decisive, contents-front}
 use Rattle.reader.specs.Read.{asked, ReadIs}
-use Rattle.board.specs.Codes.{Narrow}
+use Rattle.board.specs.Codes.{coded, Narrow}
 use Rattle.board.specs.StateWords.{Counted}
 
 pub narrow : (k n v : ℕ) → k < 256 → n < 256 → v < 65536 → Narrow (told k n v)
 narrow k n v a b c = record { kind-below = a; number-below = b; value-below = c }
+
+told-is : (k n v l m w : ℕ) → k ≡ l → n ≡ m → v ≡ w → told k n v ≡ told l m w
+told-is k n v l m w a b c = rw (a, b, c) refl
+
+-- so the number tells the answer
+pub coded-one : (a b : Told) → Narrow a → Narrow b → coded a ≡ coded b → a ≡ b
+coded-one a b p q e =
+    told-is (a .kind) (a .number) (a .value) (b .kind) (b .number) (b .value)
+    (omega (arith, p .kind-below, q .kind-below))
+    (omega (arith, p .kind-below, p .number-below, q .kind-below, q .number-below))
+    (omega (arith, p .kind-below, p .number-below, q .kind-below, q .number-below))
 
 -- the answer to a file depends on its first 643 bytes, and a refusal stands within them or at their end
 contents-narrow : (file : List ℕ) (a : Reading) → readingOf 0 0 (contentsOf file) ≡ a → Narrow (readingSays a)

@@ -9,7 +9,7 @@ use Rattle.rules.specs.declared.Task.{Task}
 use Rattle.rules.specs.declared.State.{State}
 use Rattle.board.specs.Layout.{marksAt, tasksAt, rowsAt, orderAt, phasesAt, outputsAt, dispatchesAt, buffersAt, inputsAt}
 use Rattle.board.specs.Widths.{times, bytes, marks, phases}
-use Rattle.board.specs.Columns.{cut, same, taken, Takes}
+use Rattle.board.specs.Columns.{cut, same, Takes}
 use Rattle.board.specs.Marks.{markFrom, taskFrom, idleTask}
 use Rattle.board.specs.StateWords.{ofTasks, ofRows, stateFrom}
 use Rattle.board.specs.Parts.{taskPart, rowPart, runPart, headPart, joinedPart, decoded}

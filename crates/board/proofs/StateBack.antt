@@ -4,7 +4,7 @@ use mathlib.Core.Path.{_≡_, refl, ap, sym, _∙_}
 use mathlib.Core.Bool.{Bool, true, false}
 use mathlib.Core.List.{List, _++_}
 use mathlib.Core.Logic.{⊎-elim}
-use Prim.Native.Nat.{ℕ, _+_, _≤_, _<_}
+use Prim.Native.Nat.{ℕ, _+_, _<_}
 use native.Mathlib.Omega.{arith}
 use native.Mathlib.Nat.{mod-eq-of-lt}
 use lib.ListN.{getD, length, length-append, length-map, length-replicate, replicate}
@@ -23,7 +23,7 @@ use Rattle.board.specs.Widths.{times, bytes, marks, phases}
 use Rattle.board.specs.Columns.{wordAt, fitsAt, below, taken, cut, same}
 use Rattle.board.specs.Marks.{markWord, markFrom, phaseWord, phaseFrom, taskFrom, idleTask}
 use Rattle.board.specs.StateWords.{criticality, enforced, stateWords, headWords, tableWords, movingWords, stateFrom, encodes}
-use Rattle.board.proofs.Encoded.{Encoded, encoded-encodes}
+use Rattle.board.proofs.Encoded.{encoded-encodes}
 use Rattle.board.proofs.WordPlaces.{Sized, Placed, placed}
 
 -- a state as its types have it: columns of their sizes, and narrow values below their widths

@@ -1,18 +1,17 @@
 -- Laws of the loops that read a column of words and that write rows of words. A loop that reads has `Taking` as its invariant, one
 -- that writes `Laying`, at the place k that it has come to; its proof cites the law of a turn and the law of the end.
-use mathlib.Core.Path.{_≡_, refl, ap, sym, _∙_}
-use mathlib.Core.Bool.{Bool, true, false, _&&_}
-use mathlib.Core.List.{List, [], _∷_, _++_}
+use mathlib.Core.Path.{_≡_, refl, ap, _∙_}
+use mathlib.Core.Bool.{Bool, true, _&&_}
+use mathlib.Core.List.{List}
 use Prim.Native.Nat.{ℕ, zero, suc, _+_, _*_, _≤_, _<_}
 use native.Mathlib.Omega.{arith}
 use native.Mathlib.Numerals.{add-one}
-use native.Mathlib.Nat.{mod-eq-of-lt, zero-mul, suc-mul}
+use native.Mathlib.Nat.{zero-mul, suc-mul}
 use lib.ListN.{getD, set, take, length, length-set, length-append}
 use lib.Seq.{sets, length-sets, take-suc, take-all, length-take-le}
 use lib.Dec.{ltb}
-use borrow.Author.Tests.{ltb-true}
-use Rattle.rules.proofs.Counting.{mapBelow-turn, mapBelow-same, allBelow-at, allBelow-turn, allBelow-end}
-use Rattle.board.specs.Columns.{wordAt, fitsAt, below, taken, cut, Takes}
+use Rattle.rules.proofs.Counting.{mapBelow-turn, allBelow-turn, allBelow-end}
+use Rattle.board.specs.Columns.{wordAt, fitsAt, below, taken, Takes}
 use Rattle.board.specs.Rows.{rowsOf, Lays}
 use Rattle.board.proofs.Layers.{sets-append}
 
@@ -53,13 +52,6 @@ testing-none ws start apart limit = record { tells = refl }
 pub testing-turn : (ws : List ℕ) (start apart limit k x : ℕ) (fits : Bool) → Testing ws start apart limit k fits →
     x ≡ wordAt ws start apart k → Testing ws start apart limit (k + 1) (fits && ltb x limit)
 testing-turn ws start apart limit k x fits e q = record { tells = rw q (allBelow-turn (fitsAt ws start apart limit) k fits (e .tells)) }
-
--- where each word is below the limit, none is cut
-pub taken-cut : (limit : ℕ) (ws : List ℕ) (start apart n : ℕ) (old : List ℕ) → below ws start apart limit n ≡ true →
-    taken (cut limit) ws start apart n old ≡ taken (λ w. w) ws start apart n old
-taken-cut limit ws start apart n old e =
-    mapBelow-same (λ j _. cut limit (wordAt ws start apart j)) (λ j _. wordAt ws start apart j) n old
-    (λ k h _. mod-eq-of-lt (ltb-true (wordAt ws start apart k) limit (allBelow-at (fitsAt ws start apart limit) n k e h)))
 
 -- a loop that writes rows of words, each of the same width, one after the other
 pub record Laying (start : ℕ) (f : ℕ → List ℕ) (n k : ℕ) (old new : List ℕ) : Type 0 where

@@ -1,9 +1,8 @@
 -- Words that encode a state are that state's words: storing it back changes nothing. Each list of the state's words is a part of the
 -- words, and parts that meet are one part.
 use mathlib.Core.Path.{_≡_, refl, ap, sym, _∙_}
-use mathlib.Core.Bool.{Bool, true, false}
+use mathlib.Core.Bool.{true, false}
 use mathlib.Core.List.{List, [], _∷_, _++_, map, map-id}
-use mathlib.Core.Logic.{⊎-elim}
 use Prim.Native.Nat.{ℕ, zero, suc, _+_, _-_, _*_, _≤_, _<_}
 use native.Mathlib.Omega.{arith}
 use native.Mathlib.Numerals.{add-one}
@@ -18,7 +17,7 @@ use Rattle.board.specs.Widths.{times, bytes, marks, phases}
 use Rattle.board.specs.Columns.{wordAt, fitsAt, below, taken, cut, same}
 use Rattle.board.specs.Rows.{rowsOf, Part}
 use Rattle.board.specs.Marks.{markWord, markFrom, phaseWord, phaseFrom, taskWord, taskFrom, idleTask}
-use Rattle.board.specs.StateWords.{taskRow, connectionRow, headWords, tableWords, movingWords, stateWords, stateFrom, encodes, storedIn}
+use Rattle.board.specs.StateWords.{taskRow, connectionRow, headWords, tableWords, movingWords, stateFrom, encodes, storedIn}
 use Rattle.board.proofs.Encoded.{Encoded, encodes-encoded}
 
 -- n words written out from place p on

@@ -1,4 +1,5 @@
--- What the boundary for C says: an answer as one number, the words of a plan and of a state by their places, and the statements of the five functions.
+-- What the boundary for C says: an answer as one number, the words of a plan and of a state by their places, and what each of the five
+-- functions promises.
 pub mod Codes
 pub mod Layout
 pub mod Widths

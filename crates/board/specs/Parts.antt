@@ -1,6 +1,6 @@
 -- A state in parts, as the decoder reads them: the words before the columns, the columns of the task table, of the connection rows,
 -- and of what runs.
-use mathlib.Core.Bool.{Bool, true, false}
+use mathlib.Core.Bool.{false}
 use mathlib.Core.List.{List}
 use Prim.Native.Nat.{ℕ, _+_}
 use lib.ListN.{getD}

@@ -1,16 +1,16 @@
--- A state in words, and the state that words encode.
-use mathlib.Core.Bool.{Bool, true, false, _&&_}
+-- A state in words, and the state that words encode. The laws `state-back` and `words-back` show that they are there and back.
+use mathlib.Core.Bool.{Bool, false, _&&_}
 use mathlib.Core.List.{List, [], _∷_, _++_, map}
 use Prim.Native.Nat.{ℕ, _+_, _<_}
 use lib.ListN.{getD, length, drop, replicate}
-use lib.Dec.{leb, ltb}
+use lib.Dec.{leb}
 use Rattle.rules.specs.Sizes.{mostTasks, mostRows, taskWidth, rowWidth}
 use Rattle.rules.specs.Views.{period, deadline, compute, sender, receiver, undelayed}
 use Rattle.rules.specs.declared.State.{State}
 use Rattle.board.specs.Layout.{marksAt, tasksAt, rowsAt, orderAt, phasesAt, outputsAt, dispatchesAt, buffersAt, inputsAt, stateSize}
 use Rattle.board.specs.Columns.{wordAt, taken, same, cut, below}
 use Rattle.board.specs.Rows.{rowsOf}
-use Rattle.board.specs.Widths.{times, bytes, marks, phases}
+use Rattle.board.specs.Widths.{wholes, times, bytes, marks, phases}
 use Rattle.board.specs.Marks.{markWord, markFrom, taskWord, taskFrom, idleTask}
 
 abbrev pub criticality : State → ℕ → ℕ
@@ -105,5 +105,5 @@ encodes ws = leb stateSize (length ws) && wordsFit ws
 
 -- the counts of a state are words
 pub record Counted (s : State) : Type 0 where
-  pub count-fits : s .count < 4294967296
-  pub rows-fit : s .rows < 4294967296
+  pub count-fits : s .count < wholes
+  pub rows-fit : s .rows < wholes

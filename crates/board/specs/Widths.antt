@@ -1,5 +1,9 @@
--- How many values a narrow word can have: a time is of 16 bits, a criticality and a task number of 8, a mark is 0 or 1, a phase 0 to 2.
+-- How many values a word can have: any word is of 32 bits, a time of 16, a criticality and a task number of 8, a mark is 0 or 1, a
+-- phase 0 to 2.
 use Prim.Native.Nat.{ℕ}
+
+abbrev pub wholes : ℕ
+wholes = 4294967296
 
 abbrev pub times : ℕ
 times = 65536

@@ -5,6 +5,7 @@ ghost use lib.ListN.{length};
 ghost use Rattle.board.specs.Layout.{stateSize};
 ghost use Rattle.board.specs.Parts.{taskPart, rowPart, runPart, headPart, joinedPart, decoded};
 use crate::columns;
+use crate::layout;
 use rules::State;
 use rules::Task;
 
@@ -27,11 +28,17 @@ fn task_part(words: &[u32]) -> TaskPart
     let mut computes = [0u16; 32];
     let mut criticalities = [0u8; 32];
     let mut enforced = [false; 32];
-    let mut fit = columns::halves(&mut periods, words, 6, 5);
-    fit = fit & columns::halves(&mut deadlines, words, 7, 5);
-    fit = fit & columns::halves(&mut computes, words, 8, 5);
-    fit = fit & columns::bytes(&mut criticalities, words, 9, 5);
-    fit = fit & columns::marks(&mut enforced, words, 10, 5);
+    let mut fit = columns::halves(&mut periods, words, layout::PERIODS, layout::TASK_WIDTH);
+    fit = fit & columns::halves(&mut deadlines, words, layout::DEADLINES, layout::TASK_WIDTH);
+    fit = fit & columns::halves(&mut computes, words, layout::COMPUTES, layout::TASK_WIDTH);
+    fit = fit
+        & columns::bytes(
+            &mut criticalities,
+            words,
+            layout::CRITICALITIES,
+            layout::TASK_WIDTH,
+        );
+    fit = fit & columns::marks(&mut enforced, words, layout::ENFORCED, layout::TASK_WIDTH);
     TaskPart {
         fit,
         periods,
@@ -61,11 +68,11 @@ fn row_part(words: &[u32]) -> RowPart
     let mut undelayed = [false; 64];
     let mut buffers = [0u32; 64];
     let mut inputs = [0u32; 64];
-    let mut fit = columns::bytes(&mut senders, words, 166, 3);
-    fit = fit & columns::bytes(&mut receivers, words, 167, 3);
-    fit = fit & columns::marks(&mut undelayed, words, 168, 3);
-    columns::words(&mut buffers, words, 486);
-    columns::words(&mut inputs, words, 550);
+    let mut fit = columns::bytes(&mut senders, words, layout::SENDERS, layout::ROW_WIDTH);
+    fit = fit & columns::bytes(&mut receivers, words, layout::RECEIVERS, layout::ROW_WIDTH);
+    fit = fit & columns::marks(&mut undelayed, words, layout::UNDELAYED, layout::ROW_WIDTH);
+    columns::words(&mut buffers, words, layout::BUFFERS);
+    columns::words(&mut inputs, words, layout::INPUTS);
     RowPart {
         fit,
         senders,
@@ -92,10 +99,10 @@ fn run_part(words: &[u32]) -> RunPart
     let mut order = [0u8; 32];
     let mut outputs = [0u32; 32];
     let mut dispatches = [0u32; 32];
-    let ordered = columns::bytes(&mut order, words, 358, 1);
-    let phases = columns::phases(words, 390);
-    columns::words(&mut outputs, words, 422);
-    columns::words(&mut dispatches, words, 454);
+    let ordered = columns::bytes(&mut order, words, layout::ORDER, 1);
+    let phases = columns::phases(words, layout::PHASES);
+    columns::words(&mut outputs, words, layout::OUTPUTS);
+    columns::words(&mut dispatches, words, layout::DISPATCHES);
     let tasks = phases.tasks;
     RunPart {
         fit: ordered & phases.fit,
@@ -128,7 +135,7 @@ fn head_part(words: &[u32]) -> HeadPart
     ensures { λ r. ⌜ r ≡ headPart (now (words .entry)) ⌝ }
 {
     let mut marks = [false; 2];
-    let fit = columns::marks(&mut marks, words, 4, 1);
+    let fit = columns::marks(&mut marks, words, layout::MARKS, 1);
     HeadPart {
         fit,
         count: wide(words[0]),

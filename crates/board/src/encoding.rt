@@ -1,6 +1,6 @@
 // A state into lent words, and a plan: rows of words one after the other.
 ghost use mathlib.Core.Path.{_≡_};
-ghost use mathlib.Core.List.{[], _∷_, map};
+ghost use mathlib.Core.List.{map};
 ghost use Prim.Native.Nat.{_+_, _-_, _≤_};
 ghost use lib.ListN.{length};
 ghost use lib.Seq.{sets};
@@ -10,6 +10,7 @@ ghost use Rattle.board.specs.Rows.{rowsOf, Lays, Part};
 ghost use Rattle.board.specs.Marks.{markWord, phaseWord, taskWord};
 ghost use Rattle.board.specs.PlanWords.{plannedIn};
 ghost use Rattle.board.specs.StateWords.{taskRow, connectionRow, headWords, tableWords, movingWords, storedIn, Counted};
+use crate::layout;
 use rules::Phase;
 use rules::Plan;
 use rules::State;
@@ -72,7 +73,7 @@ fn put_tasks(words: &mut [u32], s: State)
             s.criticalities[k] as u32,
             mark_word(s.enforced[k]),
         ];
-        put_words(words, 6 + k * 5, &row);
+        put_words(words, layout::PERIODS + k * layout::TASK_WIDTH, &row);
     }
 }
 
@@ -86,7 +87,7 @@ fn put_rows(words: &mut [u32], s: State)
             s.receivers[c] as u32,
             mark_word(s.undelayed[c]),
         ];
-        put_words(words, 166 + c * 3, &row);
+        put_words(words, layout::SENDERS + c * layout::ROW_WIDTH, &row);
     }
 }
 
@@ -134,7 +135,7 @@ fn put_tables(words: &mut [u32], s: State)
     put_tasks(words, s);
     put_rows(words, s);
     let order = s.order;
-    put_task_bytes(words, 358, order);
+    put_task_bytes(words, layout::ORDER, order);
 }
 
 fn put_moving(words: &mut [u32], s: State)
@@ -142,15 +143,15 @@ fn put_moving(words: &mut [u32], s: State)
     ensures { λ _. ⌜ Lays phasesAt (movingWords s) (stateSize - phasesAt) (now (words .entry)) (now (words .exit)) ⌝ }
 {
     let tasks = s.tasks;
-    put_phases(words, 390, tasks);
+    put_phases(words, layout::PHASES, tasks);
     let outputs = s.outputs;
-    put_task_words(words, 422, outputs);
+    put_task_words(words, layout::OUTPUTS, outputs);
     let dispatches = s.dispatches;
-    put_task_words(words, 454, dispatches);
+    put_task_words(words, layout::DISPATCHES, dispatches);
     let buffers = s.buffers;
-    put_row_words(words, 486, buffers);
+    put_row_words(words, layout::BUFFERS, buffers);
     let inputs = s.inputs;
-    put_row_words(words, 550, inputs);
+    put_row_words(words, layout::INPUTS, inputs);
 }
 
 pub(crate) fn put_state(words: &mut [u32], s: State)
@@ -178,9 +179,9 @@ pub(crate) fn put_plan(words: &mut [u32], p: Plan)
     let multiple = [p.multiple];
     put_words(words, 0, &multiple);
     let order = p.order;
-    put_task_bytes(words, 1, order);
+    put_task_bytes(words, layout::PLAN_ORDER, order);
     let deadlines = p.deadlines;
-    put_task_words(words, 33, deadlines);
+    put_task_words(words, layout::PLAN_DEADLINES, deadlines);
     let criticalities = p.criticalities;
-    put_task_bytes(words, 65, criticalities);
+    put_task_bytes(words, layout::PLAN_CRITICALITIES, criticalities);
 }

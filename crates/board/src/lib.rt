@@ -4,6 +4,7 @@ mod answers;
 mod columns;
 mod decoding;
 mod encoding;
+mod layout;
 
 ghost use mathlib.Core.Path.{_≡_};
 ghost use Rattle.rules.specs.Calls.{tickOf, completeOf};
@@ -25,7 +26,7 @@ pub extern "C" fn otravelun_read(file: &[u8], tasks: &mut [u16], connections: &m
 pub extern "C" fn otravelun_plan(tasks: &[u16], connections: &[u16], plan: &mut [u32]) -> u64
     ensures { λ r. ⌜ PlanTold (now (tasks .entry)) (now (connections .entry)) (now (plan .entry)) r (now (plan .exit)) ⌝ }
 {
-    if plan.len() < 97 {
+    if plan.len() < layout::PLAN_WORDS {
         return answers::code(0, 9, 0);
     }
     let p = planner::plan(tasks, connections);
@@ -38,7 +39,7 @@ pub extern "C" fn otravelun_plan(tasks: &[u16], connections: &[u16], plan: &mut 
 pub extern "C" fn otravelun_fresh(tasks: &[u16], connections: &[u16], state: &mut [u32]) -> u64
     ensures { λ r. ⌜ FreshTold (now (tasks .entry)) (now (connections .entry)) (now (state .entry)) r (now (state .exit)) ⌝ }
 {
-    if state.len() < 614 {
+    if state.len() < layout::STATE_WORDS {
         return answers::code(0, 9, 0);
     }
     let x = executive::fresh(tasks, connections);
@@ -77,7 +78,7 @@ fn leave(state: &mut [u32], x: Step) -> u64
 pub extern "C" fn otravelun_tick(state: &mut [u32]) -> u64
     ensures { λ r. ⌜ CallsTo tickOf (now (state .entry)) r (now (state .exit)) ⌝ }
 {
-    if state.len() < 614 {
+    if state.len() < layout::STATE_WORDS {
         return answers::code(0, 16, 0);
     }
     let d = decoding::decode(state);
@@ -92,7 +93,7 @@ pub extern "C" fn otravelun_tick(state: &mut [u32]) -> u64
 pub extern "C" fn otravelun_complete(state: &mut [u32], word: u32) -> u64
     ensures { λ r. ⌜ CallsTo (λ s. completeOf s word) (now (state .entry)) r (now (state .exit)) ⌝ }
 {
-    if state.len() < 614 {
+    if state.len() < layout::STATE_WORDS {
         return answers::code(0, 16, 0);
     }
     let d = decoding::decode(state);

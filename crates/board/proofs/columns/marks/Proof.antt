@@ -1,5 +1,4 @@
 -- `marks`: before each turn the first k words are taken and tested. The measure is what is left of the column.
-use borrow.Author.Needs.{needs}
 use native.Mathlib.Omega.{arith}
 use mathlib.Core.Bool.{false}
 use Prim.Native.Nat.{_-_}

@@ -2,7 +2,7 @@
 use borrow.Author.Needs.{needs}
 use native.Mathlib.Omega.{arith}
 use Prim.Native.Nat.{_-_}
-use lib.ListN.{length, replicate}
+use lib.ListN.{replicate}
 use Rattle.rules.specs.Sizes.{mostTasks}
 use Rattle.board.specs.Marks.{taskFrom, idleTask}
 use Rattle.board.proofs.Turns.{Taking, taking-none, taking-turn, takes-end, Testing, testing-none, testing-turn}

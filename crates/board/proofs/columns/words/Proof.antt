@@ -1,5 +1,4 @@
 -- `words`: before each turn the first k words are taken. The measure is what is left of the column.
-use borrow.Author.Needs.{needs}
 use native.Mathlib.Omega.{arith}
 use Prim.Native.Nat.{_-_}
 use lib.ListN.{length}

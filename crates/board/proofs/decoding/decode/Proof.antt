@@ -1,3 +1,4 @@
+-- `decode`: the state of the words is its four parts joined.
 use borrow.Author.Needs.{needs}
 use Rattle.board.proofs.PartLaws.{decoded-is}
 use Rattle.board.proofs.decoding.decode.Statement.{statement}

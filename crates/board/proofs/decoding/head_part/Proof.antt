@@ -1,3 +1,4 @@
+-- `head_part`: each word from its place, and both marks from theirs.
 use borrow.Author.Needs.{needs}
 use Rattle.board.proofs.PartLaws.{head-part-is}
 use Rattle.board.proofs.decoding.head_part.Statement.{statement}

@@ -1,3 +1,4 @@
+-- `run_part`: each column is taken from its place, and the marks of the narrow ones tell whether they fit.
 use borrow.Author.Needs.{needs}
 use Rattle.board.proofs.PartLaws.{run-part-is}
 use Rattle.board.proofs.decoding.run_part.Statement.{statement}

@@ -1,3 +1,4 @@
+-- `task_part`: each column is taken from its place, and its mark tells whether it fits.
 use borrow.Author.Needs.{needs}
 use Rattle.board.proofs.PartLaws.{task-part-is}
 use Rattle.board.proofs.decoding.task_part.Statement.{statement}

@@ -1,5 +1,4 @@
 -- `put_words`: before each turn the first k words of the column stand. The measure is what is left of it.
-use borrow.Author.Needs.{needs}
 use native.Mathlib.Omega.{arith}
 use mathlib.Core.Path.{refl}
 use Prim.Native.Nat.{_-_}
