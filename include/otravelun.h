@@ -4,7 +4,8 @@
  * task with a word. Link target/staticlib/libboard.a. Each call is proved to answer the number, and to leave in every lent word, what
  * its statement in crates/board/specs/Boundary.antt says, for all words; the layout below is that statement's.
  *
- * Memory. A call keeps nothing: it reads and writes only what it is lent, takes no heap, and uses less than 10,000 bytes of stack.
+ * Memory. A call keeps nothing: it reads and writes only what it is lent, and takes no heap. As the archive is built it uses less than
+ * 10,000 bytes of stack, which is measured and not proved.
  * A pointer must not be null, also where its length is 0; it must be aligned for its type and point at that many elements. What a
  * call writes must not overlap anything else that is lent to the same call. Nothing else is required of any argument.
  *
