@@ -6,24 +6,17 @@ use Prim.Native.Nat.{ℕ}
 use lib.ListN.{length}
 use lib.Dec.{leb}
 use Rattle.rules.specs.Answers.{verdictSays, readingSays}
-use Rattle.rules.specs.Fresh.{startOf, FreshIs}
 use Rattle.rules.specs.declared.State.{State}
 use Rattle.rules.specs.declared.Step.{Step}
 use Rattle.rules.specs.declared.Plan.{Plan}
-use Rattle.rules.proofs.Answers.{step-one}
 use Rattle.rules.proofs.Plans.{plan-one}
+use Rattle.rules.proofs.Fresh.{fresh-one}
 use Rattle.reader.proofs.ReadIs.{read-one}
 use Rattle.board.specs.Codes.{coded}
 use Rattle.board.specs.Layout.{planSize, stateSize}
 use Rattle.board.specs.PlanWords.{plannedIn}
 use Rattle.board.specs.StateWords.{storedIn}
 use Rattle.board.specs.Boundary.{ReadsTo, NoRoom, PlansTo, StartsTo, byRoom, PlanTold, FreshTold, stepSays, CallsTo}
-
--- a fresh start follows its one plan
-fresh-one : (tw cw : List ℕ) (r q : Step) → FreshIs tw cw r → FreshIs tw cw q → r ≡ q
-fresh-one tw cw r q a b =
-    let e : a .plan ≡ b .plan = plan-one tw cw (a .plan) (b .plan) (a .planned) (b .planned) in
-    step-one (startOf tw cw (b .plan) (b .plan .verdict)) r q (rw e at (a .starts)) (b .starts)
 
 pub reads-one : (file tasks connections : List ℕ) (r q : ℕ) (t u c d : List ℕ) → ReadsTo file tasks connections r t c →
     ReadsTo file tasks connections q u d → (r ≡ q) × (t ≡ u) × (c ≡ d)

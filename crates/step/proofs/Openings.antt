@@ -1,23 +1,21 @@
 -- From the reader's answer and fresh start's to what the program makes of a file; and for a machine file and an input it prints one text:
 -- a file has one fresh start, and a refused one is printed alone.
-use mathlib.Core.Path.{_≡_, refl, sym, ap, subst, _∙_}
+use mathlib.Core.Path.{_≡_, refl, sym, ap, _∙_}
 use mathlib.Core.List.{List}
 use Prim.Native.Nat.{ℕ, _≤_}
 use lib.ListN.{take}
 use Rattle.rules.specs.Sizes.{mostTaskWords, mostRowWords}
 use Rattle.rules.specs.File.{contentsOf, taskWords, connectionWords, readOf}
-use Rattle.rules.specs.Plan.{PlanIs}
-use Rattle.rules.specs.Fresh.{startOf, FreshIs}
-use Rattle.rules.specs.Answers.{answerSays, StepIs}
-use Rattle.rules.specs.declared.Plan.{Plan}
+use Rattle.rules.specs.Fresh.{FreshIs}
+use Rattle.rules.specs.Answers.{answerSays}
 use Rattle.rules.specs.declared.Step.{Step}
 use Rattle.rules.specs.declared.Answer.{Answer}
 use Rattle.rules.specs.declared.Answer.the-variants as answer
 use Rattle.rules.specs.declared.Reading.{Reading}
 use Rattle.rules.specs.declared.Reading.the-variants as reading
-use Rattle.rules.proofs.Answers.{answerSays-injective, step-one}
+use Rattle.rules.proofs.Answers.{answerSays-injective}
 use Rattle.rules.proofs.FileFront.{decisive, contents-front, read-front}
-use Rattle.rules.proofs.Plans.{plan-one}
+use Rattle.rules.proofs.Fresh.{fresh-one}
 use Rattle.text.specs.Lines.{answerLine}
 use Rattle.step.specs.Opening.{Opens, OpenIs, runText, RunIs}
 
@@ -26,11 +24,6 @@ open-refused file n p r e h = rw e (ap answerSays h)
 
 pub open-fresh : (file : List ℕ) (t c : ℕ) (r : Step) → readOf file mostTaskWords mostRowWords ≡ reading.Read t c → FreshIs (taskWords (contentsOf file)) (connectionWords (contentsOf file)) r → OpenIs file r
 open-fresh file t c r e h = rw e h
-
-fresh-one : (tw cw : List ℕ) (r q : Step) → FreshIs tw cw r → FreshIs tw cw q → r ≡ q
-fresh-one tw cw r q a b =
-    step-one (startOf tw cw (b .plan) (b .plan .verdict)) r q
-    (subst (λ (p : Plan). StepIs (startOf tw cw p (p .verdict)) r) (plan-one tw cw (a .plan) (b .plan) (a .planned) (b .planned)) (a .starts)) (b .starts)
 
 -- a refused file's start is told by its answer alone
 refusal-text : (r : Step) (n p : ℕ) (input : List ℕ) → r .answer ≡ answer.Refused n p → runText r (r .answer) input ≡ answerLine (answer.Refused n p)
