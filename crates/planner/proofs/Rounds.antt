@@ -5,24 +5,24 @@ use mathlib.Core.Path.{_≡_, refl, ap, sym, _∙_, subst}
 use mathlib.Core.Bool.{Bool, true, false, _&&_}
 use mathlib.Core.Logic.{⊎-elim}
 use mathlib.Core.List.{List}
-use Prim.Native.Nat.{ℕ, suc, _+_, _≤_, _<_}
+use Prim.Native.Nat.{ℕ, zero, suc, _+_, _≤_, _<_}
 use native.Mathlib.Omega.{arith}
 use native.Mathlib.Numerals.{add-one}
 use borrow.Author.Count.{below-more}
 use lib.ListN.{getD, length, set, replicate, length-set}
 use lib.Seq.{getD-set-same}
 use lib.Dec.{eqb}
-use borrow.Author.Tests.{eqb-true, eq-eqb}
+use borrow.Author.Tests.{eqb-true, eq-eqb, not-true}
 use Rattle.rules.specs.Sizes.{mostTasks}
 use Rattle.rules.specs.Tables.{rows, sender, receiver, kind}
 use Rattle.rules.specs.Chains.{Link, Chain}
-use Rattle.rules.specs.Counting.{mapBelow}
+use Rattle.rules.specs.Counting.{allBelow, mapBelow}
 use Rattle.rules.proofs.Tests.{lt-or, byTest, true-false, false-true, and-left, and-right, and-both}
-use Rattle.rules.proofs.Counting.{mapBelow-at, mapBelow-length, replicate-at}
+use Rattle.rules.proofs.Counting.{allBelow-at, mapBelow-at, mapBelow-length, replicate-at}
 use Rattle.rules.proofs.Chains.{Upto}
 use Rattle.planner.specs.Places.{rowOf}
 use Rattle.planner.specs.declared.places.Row.{Row}
-use Rattle.planner.specs.Rounds.{Marked, Stepped, noted}
+use Rattle.planner.specs.Rounds.{Named, Marked, Stepped, unmarked, noted}
 use Rattle.planner.proofs.Stored.{stored-at}
 
 -- ---------------------------------------------------------------------------------------------------------------------------
@@ -89,6 +89,10 @@ module _ (cw : List ℕ) (marks : List Bool) where
     complete = λ h j a l. subst (λ (x : ℕ). Marked next x) (l .3) (so .complete (l .0) (omega (arith, l .1)) (rw (l .2) a) (l .4));
   }
 
+-- a connection leads to a task
+pub link-ends : (cw : List ℕ) → Named cw → (h j : ℕ) → Link cw h j → j < mostTasks
+link-ends cw named h j l = let e = l .3 in omega (arith, named (l .0) (l .1) .1)
+
 -- ---------------------------------------------------------------------------------------------------------------------------
 -- The rounds
 
@@ -139,3 +143,27 @@ module _ (E : ℕ → ℕ → Type 0) (i : ℕ) where
                     (λ top. let e : l ≡ k + 1 = omega arith in true-false (sym (complete j (subst (λ (x : ℕ). Chain E x i j) e c)) ∙ off))
                     (lt-or l (k + 1));
               }))
+
+  -- where a round marks no task no chain is longer, and the row has the longest of all
+  module _
+      (k : ℕ) (marks next : List Bool) (best : List ℕ) (so : Rounds E i k marks best) (st : Stepped E marks next)
+      (ends : (h j : ℕ) → E h j → j < mostTasks) (none : allBelow (unmarked next) mostTasks ≡ true)
+    where
+      over : (l j : ℕ) → k < l → Chain E l i j → ⊥
+      over zero j h c = omega arith
+      over (suc l) j h c =
+          ⊎-elim (λ more. over l (c .0) more (c .1))
+          (λ top.
+          let e : l ≡ k = omega arith in
+          let on = st .complete (c .0) j (so .complete (c .0) (subst (λ (x : ℕ). Chain E x i (c .0)) e (c .1))) (c .2) in
+          true-false (sym on ∙ not-true (getD next j false) (allBelow-at (unmarked next) mostTasks j none (ends (c .0) j (c .2)))))
+          (lt-or k l)
+
+      pub rounds-over : (n j : ℕ) → k ≤ n → j < mostTasks → Upto E n i j (getD best j 0)
+      rounds-over n j h g =
+          let u = so .upto j g in
+          record {
+            within = omega (arith, u .within);
+            is = u .is;
+            most = λ l p q c. ⊎-elim (λ more. over l j more c) (λ low. u .most l p (omega arith) c) (lt-or k l);
+          }

@@ -1,7 +1,7 @@
 -- The square of longest chains, as it is worked out: from each task in rounds, where a round marks the tasks to which one
 -- connection more leads.
 use mathlib.Core.Path.{_≡_}
-use mathlib.Core.Bool.{Bool, true, false, cond}
+use mathlib.Core.Bool.{Bool, true, false, not, cond}
 use mathlib.Core.List.{List, []}
 use Prim.Native.Nat.{ℕ, _<_}
 use lib.ListN.{getD}
@@ -16,6 +16,9 @@ Named cw = (c : ℕ) → c < rows cw → (sender cw c < mostTasks) × (receiver 
 
 abbrev pub Marked : List Bool → ℕ → Type 0
 Marked marks j = getD marks j false ≡ true
+
+abbrev pub unmarked : List Bool → ℕ → Bool
+unmarked marks j = not (getD marks j false)
 
 -- next marks exactly the tasks to which a connection leads from a marked one
 pub record Stepped (E : ℕ → ℕ → Type 0) (marks next : List Bool) : Type 0 where

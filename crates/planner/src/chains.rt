@@ -4,8 +4,8 @@ ghost use mathlib.Core.Bool.{false};
 ghost use Prim.Native.Nat.{_≤_, _<_};
 ghost use Rattle.rules.specs.Sizes.{mostTasks};
 ghost use Rattle.rules.specs.Chains.{Link};
-ghost use Rattle.rules.specs.Counting.{firstOf, mapBelow};
-ghost use Rattle.planner.specs.Rounds.{Named, Stepped, ChainsFrom, Square, circles, noted};
+ghost use Rattle.rules.specs.Counting.{firstOf, allBelow, mapBelow};
+ghost use Rattle.planner.specs.Rounds.{Named, Stepped, ChainsFrom, Square, circles, unmarked, noted};
 use crate::places::row_at;
 
 // The tasks to which one connection more leads from the marked ones.
@@ -27,6 +27,19 @@ fn step(connections: &[u16], marks: [bool; 32]) -> [bool; 32]
     next
 }
 
+// Whether no task is marked.
+fn none(marks: [bool; 32]) -> bool
+    ensures { λ r. ⌜ r ≡ allBelow (unmarked marks) 32 ⌝ }
+{
+    let mut ok = true;
+    let mut j: usize = 0;
+    while j < 32 {
+        ok = ok & !marks[j];
+        j += 1;
+    }
+    ok
+}
+
 // k at each marked task, and what stood there at the others.
 fn noted(best: [u8; 32], marks: [bool; 32], k: u8) -> [u8; 32]
     ensures { λ r. ⌜ r ≡ mapBelow (noted marks k) 32 best ⌝ }
@@ -42,7 +55,7 @@ fn noted(best: [u8; 32], marks: [bool; 32], k: u8) -> [u8; 32]
     out
 }
 
-// The longest chain of at most n connections from task i to each task.
+// The longest chain of at most n connections from task i to each task. Where no chain has k connections none has more.
 fn chains_from(connections: &[u16], n: u8, i: usize) -> [u8; 32]
     requires { ⌜ Named (now connections) × (i < mostTasks) ⌝ }
     ensures { λ r. ⌜ ChainsFrom (Link (now (connections .entry))) n i r ⌝ }
@@ -54,6 +67,9 @@ fn chains_from(connections: &[u16], n: u8, i: usize) -> [u8; 32]
     while k < n {
         k += 1;
         let next = step(connections, marks);
+        if none(next) {
+            return best;
+        }
         let more = noted(best, next, k);
         marks = next;
         best = more;
