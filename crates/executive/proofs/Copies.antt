@@ -14,12 +14,41 @@ use Rattle.rules.specs.declared.Task.{Task}
 use Rattle.rules.specs.declared.State.{State}
 use Rattle.rules.proofs.Tests.{cond-false, and-not-right}
 use Rattle.rules.proofs.Counting.{mapBelow-same, mapBelow-none, firstOf-same}
-use Rattle.executive.specs.Marks.{Tells}
-use Rattle.executive.specs.Columns.{lateIn, deliversIn, samplesIn, wakesIn, recordsIn, Exchanges}
+use Rattle.executive.specs.Marks.{anyBelow, marked, Below}
+use Rattle.executive.proofs.Marks.{Tells, anyBelow-none}
+use Rattle.executive.specs.Columns.{lateIn, deliversIn, samplesIn, wakesIn, recordsIn}
+
+-- rows join tasks, and the marks tell whose deadlines fall and who is dispatched
+pub record Exchanges (s : State) (due freed : List Bool) : Type 0 where
+  pub sends : (c : ℕ) → c < s .rows → sender s c < s .count
+  pub receives : (c : ℕ) → c < s .rows → receiver s c < s .count
+  pub falling : Tells due (falls s) (s .count)
+  pub freeing : Tells freed (released s) (s .count)
 
 -- no copy where the mark is not set
 copy-off : (a b : Bool) (x y : ℕ) → b ≡ false → cond (a && b) x y ≡ y
 copy-off a b x y e = cond-false (a && b) x y (and-not-right a b e)
+
+-- where no mark is set nothing changes
+module _ (due freed : List Bool) (n m : ℕ) (none-due : anyBelow (marked due) n ≡ false) (none-freed : anyBelow (marked freed) n ≡ false) where
+  pub none-delivered : (senders : List ℕ) (undelayed : List Bool) (outputs buffers : List ℕ) → Below senders m n →
+      buffers ≡ mapBelow (deliversIn senders undelayed outputs due) m buffers
+  none-delivered senders undelayed outputs buffers sends =
+      sym (mapBelow-none (deliversIn senders undelayed outputs due) m buffers
+      (λ c h w. copy-off (not (getD undelayed c false)) (marked due (getD senders c 0)) _ w (anyBelow-none (marked due) n (getD senders c 0) none-due (sends c h))))
+
+  pub none-sampled : (receivers : List ℕ) (undelayed : List Bool) (buffers inputs : List ℕ) → Below receivers m n →
+      inputs ≡ mapBelow (samplesIn receivers undelayed buffers freed) m inputs
+  none-sampled receivers undelayed buffers inputs receives =
+      sym (mapBelow-none (samplesIn receivers undelayed buffers freed) m inputs
+      (λ c h w. copy-off (not (getD undelayed c false)) (marked freed (getD receivers c 0)) _ w (anyBelow-none (marked freed) n (getD receivers c 0) none-freed (receives c h))))
+
+  pub none-recorded : (t : ℕ) (dispatches : List ℕ) → dispatches ≡ mapBelow (recordsIn freed t) n dispatches
+  none-recorded t dispatches =
+      sym (mapBelow-none (recordsIn freed t) n dispatches (λ i h d. cond-false _ _ _ (anyBelow-none (marked freed) n i none-freed h)))
+
+  pub none-woken : (tasks : List Task) → tasks ≡ mapBelow (wakesIn freed) n tasks
+  none-woken tasks = sym (mapBelow-none (wakesIn freed) n tasks (λ i h k. cond-false _ _ _ (anyBelow-none (marked freed) n i none-freed h)))
 
 moved-same : (s : State) {tasks tasks′ : List Task} {dispatches dispatches′ buffers buffers′ inputs inputs′ : List ℕ} →
     tasks ≡ tasks′ → dispatches ≡ dispatches′ → buffers ≡ buffers′ → inputs ≡ inputs′ →
@@ -33,16 +62,6 @@ missing-is s due falling =
     firstOf-same (lateIn (s .tasks) due) (late s) (s .count) (λ i h. ap (λ (b : Bool). b && not (idle (phaseOf s i))) (falling i h))
 
 module _ (s : State) (due freed : List Bool) (x : Exchanges s due freed) where
-  -- where no deadline falls and no task is dispatched nothing changes
-  pub exchanged-none : ((i : ℕ) → i < s .count → falls s i ≡ false) → ((i : ℕ) → i < s .count → released s i ≡ false) → s ≡ dispatched (delivered s)
-  unfolding delivered dispatched
-  exchanged-none f q =
-      moved-same s
-      (sym (mapBelow-none (wakes s) (s .count) (s .tasks) (λ i h k. cond-false _ _ _ (q i h))))
-      (sym (mapBelow-none (records s) (s .count) (s .dispatches) (λ i h t. cond-false _ _ _ (q i h))))
-      (sym (mapBelow-none (delivers s) (s .rows) (s .buffers) (λ c h w. copy-off (not (undelayed s c)) (falls s (sender s c)) _ w (f (sender s c) (x .sends c h)))))
-      (sym (mapBelow-none (samples (delivered s)) (s .rows) (s .inputs) (λ c h w. copy-off (not (undelayed s c)) (released s (receiver s c)) _ w (q (receiver s c) (x .receives c h)))))
-
   buffers-are : mapBelow (deliversIn (s .senders) (s .undelayed) (s .outputs) due) (s .rows) (s .buffers) ≡ delivered s .buffers
   unfolding delivered
   buffers-are =

@@ -14,8 +14,8 @@ use borrow.Author.Tests.{eqb-true, eqb-false, lt-ltb, le-ltb}
 use Rattle.rules.specs.Counting.{firstOf, mapBelow}
 use Rattle.rules.proofs.Tests.{byTest, true-false, lt-or}
 use Rattle.rules.proofs.Counting.{firstOf-hit, firstOf-before, mapBelow-at}
-use Rattle.executive.specs.Marks.{anyBelow, marked, MarkedBy, Tells, puts}
-use Rattle.executive.specs.Range.{namedIn}
+use Rattle.executive.specs.Marks.{anyBelow, marked, puts}
+use Rattle.executive.specs.Range.{namesIn}
 
 -- ---------------------------------------------------------------------------------------------------------------------------
 -- anyBelow
@@ -35,6 +35,9 @@ or-true true b e = refl
 or-false : (a b : Bool) → b ≡ false → a || b ≡ a
 or-false false b e = e
 or-false true b e = refl
+
+pub or-same : (a b p q : Bool) → a ≡ p → b ≡ q → a || b ≡ p || q
+or-same a b p q e f = cc
 
 pub anyBelow-turn : (p : ℕ → Bool) (i : ℕ) (any : Bool) → any ≡ anyBelow p i → any || p i ≡ anyBelow p (i + 1)
 anyBelow-turn p i any e = rw (add-one, e) refl
@@ -70,6 +73,14 @@ firstOf-any p n =
 -- ---------------------------------------------------------------------------------------------------------------------------
 -- The marks of those that the order names.
 
+-- each place has the mark that p gives it
+abbrev pub MarkedBy : (ℕ → Bool) → List Bool → Type 0
+MarkedBy p marks = (i : ℕ) → marked marks i ≡ p i
+
+-- whether one of the first k places names i
+abbrev pub namedIn : List ℕ → ℕ → ℕ → Bool
+namedIn order k i = anyBelow (namesIn order i) k
+
 pub named-none : (order : List ℕ) (n : ℕ) → MarkedBy (namedIn order 0) (replicate n false)
 named-none order zero i = refl
 named-none order (suc n) zero = refl
@@ -87,6 +98,10 @@ named-turn order k seen h e i =
 
 -- ---------------------------------------------------------------------------------------------------------------------------
 -- The marks that a loop puts.
+
+-- each of the first n places has the mark that p gives it
+abbrev pub Tells : List Bool → (ℕ → Bool) → ℕ → Type 0
+Tells marks p n = (i : ℕ) → i < n → marked marks i ≡ p i
 
 pub puts-tells : (p : ℕ → Bool) (n : ℕ) (blank marks : List Bool) → n ≤ length blank → marks ≡ mapBelow (puts p) n blank → Tells marks p n
 puts-tells p n blank marks l e i h =

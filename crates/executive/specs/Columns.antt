@@ -7,14 +7,12 @@ use Prim.Native.Nat.{ℕ, _%_, _≤_, _<_}
 use lib.ListN.{getD}
 use lib.Dec.{eqb, ltb}
 use Rattle.rules.specs.Counting.{firstOf, mapBelow}
-use Rattle.rules.specs.Sizes.{mostTasks, mostRows, longestPeriod}
-use Rattle.rules.specs.Views.{idle, waiting, taskIn, sender, receiver, ordered}
-use Rattle.rules.specs.Steps.{falls, released}
+use Rattle.rules.specs.Sizes.{longestPeriod}
+use Rattle.rules.specs.Views.{idle, waiting, taskIn}
 use Rattle.rules.specs.declared.Phase.{Phase}
 use Rattle.rules.specs.declared.Phase.the-variants as phase
 use Rattle.rules.specs.declared.Task.{Task}
-use Rattle.rules.specs.declared.State.{State}
-use Rattle.executive.specs.Marks.{anyBelow, puts, marked, Tells}
+use Rattle.executive.specs.Marks.{anyBelow, puts, marked}
 use Rattle.executive.specs.declared.deadlines.Falls.{Falls}
 use Rattle.executive.specs.declared.choice.Choice.{Choice}
 
@@ -60,15 +58,6 @@ wakesIn released i k = cond (marked released i) (taskIn phase.Waiting) k
 abbrev pub recordsIn : List Bool → ℕ → ℕ → ℕ → ℕ
 recordsIn released t i d = cond (marked released i) t d
 
--- what steps 2 and 3 ask of a state and of the marks: rows join tasks, and the marks tell
-pub record Exchanges (s : State) (due freed : List Bool) : Type 0 where
-  pub few : s .count ≤ mostTasks
-  pub few-rows : s .rows ≤ mostRows
-  pub sends : (c : ℕ) → c < s .rows → sender s c < s .count
-  pub receives : (c : ℕ) → c < s .rows → receiver s c < s .count
-  pub falling : Tells due (falls s) (s .count)
-  pub freeing : Tells freed (released s) (s .count)
-
 -- step 4
 abbrev pub busyIn : List Task → List ℕ → ℕ → Bool
 busyIn tasks order k = not (idle (phaseIn tasks (getD order k 0)))
@@ -81,12 +70,6 @@ someIn tasks order n = ltb (placeIn tasks order n) n
 
 abbrev pub runningIn : List Task → List ℕ → ℕ → ℕ
 runningIn tasks order n = getD order (placeIn tasks order n) 0
-
--- what it asks of a state: each place of the order names a task
-pub record Orderly (s : State) : Type 0 where
-  pub few : s .count ≤ mostTasks
-  pub few-rows : s .rows ≤ mostRows
-  pub names : (k : ℕ) → k < s .count → ordered s k < s .count
 
 -- who runs, and whether it was waiting
 pub record Chooses (tasks : List Task) (order : List ℕ) (n : ℕ) (r : Choice) : Type 0 where

@@ -2,4 +2,5 @@
 pub mod Marks
 pub mod Range
 pub mod Columns
+pub mod Lent
 pub mod Start

@@ -1,5 +1,4 @@
 -- Marks by place, and numbers by place: what the functions over columns are told and tell.
-use mathlib.Core.Path.{_≡_}
 use mathlib.Core.Bool.{Bool, false, _||_}
 use mathlib.Core.List.{List}
 use Prim.Native.Nat.{ℕ, zero, suc, _<_}
@@ -13,14 +12,6 @@ anyBelow p (suc n) = anyBelow p n || p n
 -- the mark at place i
 abbrev pub marked : List Bool → ℕ → Bool
 marked marks i = getD marks i false
-
--- each place has the mark that p gives it
-abbrev pub MarkedBy : (ℕ → Bool) → List Bool → Type 0
-MarkedBy p marks = (i : ℕ) → marked marks i ≡ p i
-
--- each of the first n places has the mark that p gives it
-abbrev pub Tells : List Bool → (ℕ → Bool) → ℕ → Type 0
-Tells marks p n = (i : ℕ) → i < n → marked marks i ≡ p i
 
 -- what stands at place k becomes f k, whatever it was
 abbrev pub puts : {A : Type 0} → (ℕ → A) → ℕ → A → A

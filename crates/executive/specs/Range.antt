@@ -5,7 +5,6 @@ use Prim.Native.Nat.{ℕ}
 use lib.ListN.{getD}
 use lib.Dec.{eqb, leb, ltb}
 use Rattle.rules.specs.Counting.{firstOf, allBelow}
-use Rattle.executive.specs.Marks.{anyBelow}
 use Rattle.rules.specs.Refusals.{isHalted, outOfRange}
 use Rattle.rules.specs.Sizes.{mostTasks, mostRows, longestPeriod, mostMultiple}
 
@@ -26,10 +25,6 @@ rowIn senders receivers n c = ltb (getD senders c 0) n && ltb (getD receivers c 
 
 abbrev pub namesIn : List ℕ → ℕ → ℕ → Bool
 namesIn order i k = eqb (getD order k 0) i
-
--- whether one of the first k places names i
-abbrev pub namedIn : List ℕ → ℕ → ℕ → Bool
-namedIn order k i = anyBelow (namesIn order i) k
 
 abbrev pub hasPlaceIn : List ℕ → ℕ → ℕ → Bool
 hasPlaceIn order n i = ltb (firstOf (namesIn order i) n) n

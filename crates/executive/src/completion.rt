@@ -3,19 +3,22 @@ ghost use mathlib.Core.Path.{_≡_};
 ghost use Prim.Native.Nat.{_<_, _≤_};
 ghost use Rattle.rules.specs.Counting.{mapBelow};
 ghost use Rattle.executive.specs.Columns.{postsIn};
-ghost use Rattle.rules.specs.Steps.{endedAt};
+ghost use Rattle.executive.specs.Lent.{Completes};
 ghost use Rattle.executive.specs.Marks.{Below};
+use crate::choice::Chosen;
+use crate::choice::choose;
+use crate::choice::run;
+use rules::Answer;
 use rules::Phase;
-use rules::State;
 use rules::Task;
 
 // "for each undelayed connection from it whose receiver has the same recorded cycle the word goes to the buffer"
-fn post<'a>(
+fn post(
     buffers: &mut [u32; 64],
-    senders: &'a [u8; 64],
-    receivers: &'a [u8; 64],
-    undelayed: &'a [bool; 64],
-    dispatches: &'a [u32; 32],
+    senders: &[u8; 64],
+    receivers: &[u8; 64],
+    undelayed: &[bool; 64],
+    dispatches: &[u32; 32],
     m: usize,
     i: u8,
     here: u32,
@@ -34,29 +37,48 @@ fn post<'a>(
     }
 }
 
-// "the word is its output, it becomes idle"
-pub(crate) fn ended(s: State, i: u8, word: u32) -> State
-    requires { ⌜ (s .rows ≤ 64) × Below (s .receivers) (s .rows) 32 × (i < 32) ⌝ }
-    ensures { λ r. ⌜ r ≡ endedAt s i word ⌝ }
+// "Completion with a word ends the running task: the word is its output, it becomes idle .. Then choose as in 4". Where no
+// task runs nothing changes, and the answer is refusal 14.
+pub(crate) fn completing(
+    tasks: [Task; 32],
+    outputs: &mut [u32; 32],
+    buffers: &mut [u32; 64],
+    inputs: &mut [u32; 64],
+    senders: &[u8; 64],
+    receivers: &[u8; 64],
+    undelayed: &[bool; 64],
+    order: &[u8; 32],
+    dispatches: &[u32; 32],
+    n: usize,
+    m: usize,
+    word: u32,
+) -> Chosen
+    requires { ⌜ (n ≤ 32) × (m ≤ 64) × Below (now receivers) m n × Below (now order) n n ⌝ }
+    ensures { λ r. ⌜ Completes n m (now (senders .entry)) (now (receivers .entry)) (now (undelayed .entry)) (now (order .entry)) (now (dispatches .entry)) tasks (now (outputs .entry)) (now (buffers .entry)) (now (inputs .entry)) (now (outputs .exit)) (now (buffers .exit)) (now (inputs .exit)) word r ⌝ }
 {
-    let mut z = s;
-    let m = z.rows;
+    let c = choose(tasks, order, n);
+    if !c.some {
+        return Chosen {
+            answer: Answer::Refused(14, 0),
+            tasks: tasks,
+        };
+    }
+    let i = c.task;
     let at = i as usize;
-    let here = z.dispatches[at];
-    let mut buffers = z.buffers;
+    let here = dispatches[at];
     post(
-        &mut buffers,
-        &z.senders,
-        &z.receivers,
-        &z.undelayed,
-        &z.dispatches,
+        buffers,
+        senders,
+        receivers,
+        undelayed,
+        dispatches,
         m,
         i,
         here,
         word,
     );
-    z.buffers = buffers;
-    z.outputs[at] = word;
-    z.tasks[at] = Task { phase: Phase::Idle };
-    z
+    outputs[at] = word;
+    let mut rest = tasks;
+    rest[at] = Task { phase: Phase::Idle };
+    run(rest, inputs, buffers, receivers, undelayed, order, n, m)
 }

@@ -1,6 +1,5 @@
 // The executive: fresh start on any two tables, tick and completion on any state. Each step stands in a file of its own.
 ghost use mathlib.Core.Path.{_≡_};
-ghost use Rattle.rules.specs.Steps.{step};
 ghost use Rattle.rules.specs.Calls.{tickOf, completeOf};
 ghost use Rattle.rules.specs.Answers.{StepIs};
 ghost use Rattle.rules.specs.Fresh.{FreshIs};
@@ -16,18 +15,14 @@ mod phases; // idle, waiting or started
 mod deadlines; // step 1 of a tick, and step 5
 mod exchange; // steps 2 and 3
 mod choice; // step 4
+mod ticking; // all five
 mod completion; // the end of the running task
 
-use choice::choose;
-use choice::run;
-use completion::ended;
-use deadlines::after;
-use deadlines::first_missing;
-use deadlines::mark;
-use exchange::exchanged;
+use completion::completing;
 use range::in_range;
 use start::fresh_state;
 use start::halted_zeros;
+use ticking::ticking;
 
 pub fn fresh(tasks: &[u16], connections: &[u16]) -> Step
     ensures { λ r. ⌜ FreshIs (now (tasks .entry)) (now (connections .entry)) r ⌝ }
@@ -62,99 +57,141 @@ fn refusal(ranged: bool, halted: bool) -> usize
     if halted { 15 } else { 0 }
 }
 
-// "a refused tick or completion returns the state it was given"
-fn refused(s: State, number: usize) -> Step
-    ensures { λ r. ⌜ r ≡ step (Answer.Refused number 0) s ⌝ }
-{
-    Step {
-        answer: Answer::Refused(number, 0),
-        state: s,
-    }
-}
-
+// The columns are taken out of the state, changed, and put back whole: an element reached inside the state would have all of it
+// copied. "a refused tick or completion returns the state it was given": then the columns are put back as they were.
 pub fn tick(s: State) -> Step
     ensures { λ r. ⌜ StepIs (tickOf s) r ⌝ }
 {
-    let mut z = s;
-    let n = z.count;
-    let u = z.multiple;
-    let t = z.cycle;
+    let n = s.count;
+    let m = s.rows;
+    let u = s.multiple;
+    let t = s.cycle;
+    let periods = s.periods;
+    let deadlines = s.deadlines;
+    let computes = s.computes;
+    let senders = s.senders;
+    let receivers = s.receivers;
+    let undelayed = s.undelayed;
+    let order = s.order;
+    let outputs = s.outputs;
+    let mut tasks = s.tasks;
+    let mut dispatches = s.dispatches;
+    let mut buffers = s.buffers;
+    let mut inputs = s.inputs;
+    let mut next = s;
     let ranged = in_range(
-        &z.periods,
-        &z.deadlines,
-        &z.computes,
-        &z.dispatches,
-        &z.senders,
-        &z.receivers,
-        &z.order,
+        &periods,
+        &deadlines,
+        &computes,
+        &dispatches,
+        &senders,
+        &receivers,
+        &order,
         n,
-        z.rows,
+        m,
         u,
         t,
     );
-    let k = refusal(ranged, z.halted);
-    if 0 < k {
-        return refused(z, k);
+    let k = refusal(ranged, s.halted);
+    let mut a = Answer::Refused(k, 0);
+    if k == 0 {
+        let r = ticking(
+            tasks,
+            &mut dispatches,
+            &mut buffers,
+            &mut inputs,
+            &periods,
+            &deadlines,
+            &senders,
+            &receivers,
+            &undelayed,
+            &order,
+            &outputs,
+            n,
+            m,
+            u,
+            t,
+            s.ticked,
+        );
+        let b = r.answer;
+        let y = r.tasks;
+        a = b;
+        tasks = y;
+        next.cycle = r.cycle;
+        next.ticked = r.ticked;
+        next.halted = r.halted;
     }
-    let mut due = [false; 32];
-    let mut released = [false; 32];
-    let any = mark(
-        &mut due,
-        &mut released,
-        &z.periods,
-        &z.deadlines,
-        n,
-        z.ticked,
-        t,
-    );
-    let tasks = z.tasks;
-    let i = first_missing(tasks, &due, n, any.due);
-    if i < n {
-        z.halted = true;
-        return Step {
-            answer: Answer::Missed(i),
-            state: z,
-        };
+    next.tasks = tasks;
+    next.dispatches = dispatches;
+    next.buffers = buffers;
+    next.inputs = inputs;
+    Step {
+        answer: a,
+        state: next,
     }
-    if any.due | any.released {
-        let y = exchanged(z, &due, &released);
-        z = y;
-    }
-    z.cycle = after(t, u);
-    z.ticked = true;
-    run(z)
 }
 
 pub fn complete(s: State, word: u32) -> Step
     ensures { λ r. ⌜ StepIs (completeOf s word) r ⌝ }
 {
-    let mut z = s;
-    let n = z.count;
-    let u = z.multiple;
-    let t = z.cycle;
+    let n = s.count;
+    let m = s.rows;
+    let u = s.multiple;
+    let t = s.cycle;
+    let periods = s.periods;
+    let deadlines = s.deadlines;
+    let computes = s.computes;
+    let senders = s.senders;
+    let receivers = s.receivers;
+    let undelayed = s.undelayed;
+    let order = s.order;
+    let dispatches = s.dispatches;
+    let mut tasks = s.tasks;
+    let mut outputs = s.outputs;
+    let mut buffers = s.buffers;
+    let mut inputs = s.inputs;
     let ranged = in_range(
-        &z.periods,
-        &z.deadlines,
-        &z.computes,
-        &z.dispatches,
-        &z.senders,
-        &z.receivers,
-        &z.order,
+        &periods,
+        &deadlines,
+        &computes,
+        &dispatches,
+        &senders,
+        &receivers,
+        &order,
         n,
-        z.rows,
+        m,
         u,
         t,
     );
-    let k = refusal(ranged, z.halted);
-    if 0 < k {
-        return refused(z, k);
+    let k = refusal(ranged, s.halted);
+    let mut a = Answer::Refused(k, 0);
+    if k == 0 {
+        let r = completing(
+            tasks,
+            &mut outputs,
+            &mut buffers,
+            &mut inputs,
+            &senders,
+            &receivers,
+            &undelayed,
+            &order,
+            &dispatches,
+            n,
+            m,
+            word,
+        );
+        let b = r.answer;
+        let y = r.tasks;
+        a = b;
+        tasks = y;
     }
-    let tasks = z.tasks;
-    let c = choose(tasks, &z.order, n);
-    if !c.some {
-        return refused(z, 14);
+    let mut ended = s;
+    ended.tasks = tasks;
+    ended.outputs = outputs;
+    ended.buffers = buffers;
+    ended.inputs = inputs;
+    Step {
+        answer: a,
+        state: ended,
     }
-    let y = ended(z, c.task, word);
-    z = y;
-    run(z)
 }

@@ -1,10 +1,10 @@
-// Refusal 16: a state out of range. Each test walks one or two columns without a branch.
+// Refusal 16: a state out of range. The tests of times, recorded cycles and rows walk their columns without a branch.
 ghost use mathlib.Core.Path.{_≡_};
 ghost use mathlib.Core.Bool.{true, _&&_};
 ghost use Prim.Native.Nat.{_<_, _≤_};
 ghost use Rattle.rules.specs.Counting.{allBelow};
-ghost use Rattle.executive.specs.Range.{sizesIn, timesIn, belowIn, rowIn, namedIn, tasksIn, orderIn, tablesIn};
-ghost use Rattle.executive.specs.Marks.{marked, MarkedBy, Below};
+ghost use Rattle.executive.specs.Range.{sizesIn, timesIn, belowIn, rowIn, tasksIn, orderIn, tablesIn};
+ghost use Rattle.executive.specs.Marks.{marked};
 
 // "a count .. outside the sizes", "a common multiple outside 1 to 720,720, a cycle .. not below it".
 fn sizes_fit(n: usize, m: usize, u: u32, t: u32) -> bool
@@ -14,12 +14,7 @@ fn sizes_fit(n: usize, m: usize, u: u32, t: u32) -> bool
 }
 
 // "the ranges of 3".
-fn times_fit<'a>(
-    periods: &'a [u16; 32],
-    deadlines: &'a [u16; 32],
-    computes: &'a [u16; 32],
-    n: usize,
-) -> bool
+fn times_fit(periods: &[u16; 32], deadlines: &[u16; 32], computes: &[u16; 32], n: usize) -> bool
     requires { ⌜ n ≤ 32 ⌝ }
     ensures { λ r. ⌜ r ≡ allBelow (timesIn (now (periods .entry)) (now (deadlines .entry)) (now (computes .entry))) n ⌝ }
 {
@@ -50,7 +45,7 @@ fn dispatches_fit(dispatches: &[u32; 32], n: usize, u: u32) -> bool
 }
 
 // "the ranges of .. 4".
-fn rows_fit<'a>(senders: &'a [u8; 64], receivers: &'a [u8; 64], m: usize, n: u8) -> bool
+fn rows_fit(senders: &[u8; 64], receivers: &[u8; 64], m: usize, n: u8) -> bool
     requires { ⌜ m ≤ 64 ⌝ }
     ensures { λ r. ⌜ r ≡ allBelow (rowIn (now (senders .entry)) (now (receivers .entry)) n) m ⌝ }
 {
@@ -61,34 +56,6 @@ fn rows_fit<'a>(senders: &'a [u8; 64], receivers: &'a [u8; 64], m: usize, n: u8)
         c += 1;
     }
     ok
-}
-
-// "an order that does not name each task once": each place names a task, and each task has a place.
-fn places_fit(order: &[u8; 32], n: usize, top: u8) -> bool
-    requires { ⌜ n ≤ 32 ⌝ }
-    ensures { λ r. ⌜ r ≡ allBelow (belowIn (now (order .entry)) top) n ⌝ }
-{
-    let mut ok = true;
-    let mut k: usize = 0;
-    while k < n {
-        ok = ok & (order[k] < top);
-        k += 1;
-    }
-    ok
-}
-
-fn named(order: &[u8; 32], n: usize) -> [bool; 32]
-    requires { ⌜ (n ≤ 32) × Below (now order) n 32 ⌝ }
-    ensures { λ r. ⌜ MarkedBy (namedIn (now (order .entry)) n) r ⌝ }
-{
-    let mut seen = [false; 32];
-    let mut k: usize = 0;
-    while k < n {
-        let i = order[k] as usize;
-        seen[i] = true;
-        k += 1;
-    }
-    seen
 }
 
 fn all_seen(seen: &[bool; 32], n: usize) -> bool
@@ -104,22 +71,31 @@ fn all_seen(seen: &[bool; 32], n: usize) -> bool
     ok
 }
 
+// "an order that does not name each task once": each place names a task, and each task has a place.
 fn order_fits(order: &[u8; 32], n: usize) -> bool
     requires { ⌜ n ≤ 32 ⌝ }
     ensures { λ r. ⌜ r ≡ orderIn (now (order .entry)) n ⌝ }
 {
-    if !places_fit(order, n, n as u8) {
-        return false;
+    let top = n as u8;
+    let mut seen = [false; 32];
+    let mut k: usize = 0;
+    while k < n {
+        let i = order[k];
+        if top <= i {
+            return false;
+        }
+        let at = i as usize;
+        seen[at] = true;
+        k += 1;
     }
-    let seen = named(order, n);
     all_seen(&seen, n)
 }
 
-fn tasks_fit<'a>(
-    periods: &'a [u16; 32],
-    deadlines: &'a [u16; 32],
-    computes: &'a [u16; 32],
-    dispatches: &'a [u32; 32],
+fn tasks_fit(
+    periods: &[u16; 32],
+    deadlines: &[u16; 32],
+    computes: &[u16; 32],
+    dispatches: &[u32; 32],
     n: usize,
     u: u32,
 ) -> bool
@@ -129,14 +105,14 @@ fn tasks_fit<'a>(
     times_fit(periods, deadlines, computes, n) & dispatches_fit(dispatches, n, u)
 }
 
-fn tables_fit<'a>(
-    periods: &'a [u16; 32],
-    deadlines: &'a [u16; 32],
-    computes: &'a [u16; 32],
-    dispatches: &'a [u32; 32],
-    senders: &'a [u8; 64],
-    receivers: &'a [u8; 64],
-    order: &'a [u8; 32],
+fn tables_fit(
+    periods: &[u16; 32],
+    deadlines: &[u16; 32],
+    computes: &[u16; 32],
+    dispatches: &[u32; 32],
+    senders: &[u8; 64],
+    receivers: &[u8; 64],
+    order: &[u8; 32],
     n: usize,
     m: usize,
     u: u32,
@@ -150,14 +126,14 @@ fn tables_fit<'a>(
 }
 
 // The sizes first: with them the tables can be walked.
-pub(crate) fn in_range<'a>(
-    periods: &'a [u16; 32],
-    deadlines: &'a [u16; 32],
-    computes: &'a [u16; 32],
-    dispatches: &'a [u32; 32],
-    senders: &'a [u8; 64],
-    receivers: &'a [u8; 64],
-    order: &'a [u8; 32],
+pub(crate) fn in_range(
+    periods: &[u16; 32],
+    deadlines: &[u16; 32],
+    computes: &[u16; 32],
+    dispatches: &[u32; 32],
+    senders: &[u8; 64],
+    receivers: &[u8; 64],
+    order: &[u8; 32],
     n: usize,
     m: usize,
     u: u32,

@@ -1,0 +1,82 @@
+// The five steps of a tick, on the columns of a state that is in range and not halted.
+ghost use mathlib.Core.Path.{_≡_};
+ghost use Rattle.executive.specs.Lent.{Ranges, Ticks};
+use crate::choice::run;
+use crate::deadlines::after;
+use crate::deadlines::first_missing;
+use crate::deadlines::mark;
+use crate::exchange::exchange;
+use rules::Answer;
+use rules::Task;
+
+// The answer, and what a tick changes besides the columns that it is lent.
+pub(crate) struct Ticked {
+    pub(crate) answer: Answer,
+    pub(crate) tasks: [Task; 32],
+    pub(crate) cycle: u32,
+    pub(crate) ticked: bool,
+    pub(crate) halted: bool,
+}
+
+pub(crate) fn ticking(
+    tasks: [Task; 32],
+    dispatches: &mut [u32; 32],
+    buffers: &mut [u32; 64],
+    inputs: &mut [u32; 64],
+    periods: &[u16; 32],
+    deadlines: &[u16; 32],
+    senders: &[u8; 64],
+    receivers: &[u8; 64],
+    undelayed: &[bool; 64],
+    order: &[u8; 32],
+    outputs: &[u32; 32],
+    n: usize,
+    m: usize,
+    u: u32,
+    t: u32,
+    ticked: bool,
+) -> Ticked
+    requires { ⌜ Ranges n m u t (now periods) (now deadlines) (now senders) (now receivers) (now order) ⌝ }
+    ensures { λ r. ⌜ Ticks n m u (now (periods .entry)) (now (deadlines .entry)) (now (senders .entry)) (now (receivers .entry)) (now (undelayed .entry)) (now (order .entry)) (now (outputs .entry)) tasks (now (dispatches .entry)) (now (buffers .entry)) (now (inputs .entry)) t ticked (now (dispatches .exit)) (now (buffers .exit)) (now (inputs .exit)) r ⌝ }
+{
+    let mut due = [false; 32];
+    let mut released = [false; 32];
+    let any = mark(&mut due, &mut released, periods, deadlines, n, ticked, t);
+    let i = first_missing(tasks, &due, n, any.due);
+    if i < n {
+        return Ticked {
+            answer: Answer::Missed(i),
+            tasks: tasks,
+            cycle: t,
+            ticked: ticked,
+            halted: true,
+        };
+    }
+    let woken = exchange(
+        tasks,
+        dispatches,
+        buffers,
+        inputs,
+        senders,
+        receivers,
+        undelayed,
+        outputs,
+        &due,
+        &released,
+        n,
+        m,
+        t,
+        any.due | any.released,
+    );
+    let c = run(woken, inputs, buffers, receivers, undelayed, order, n, m);
+    let a = c.answer;
+    let y = c.tasks;
+    let next = after(t, u);
+    Ticked {
+        answer: a,
+        tasks: y,
+        cycle: next,
+        ticked: true,
+        halted: false,
+    }
+}
