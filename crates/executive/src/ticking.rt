@@ -18,6 +18,7 @@ pub(crate) struct Ticked {
     pub(crate) halted: bool,
 }
 
+// "Tick at cycle t, in this order". Step 5 looks at nothing that step 4 changes, so its cycle goes out with the answer.
 pub(crate) fn ticking(
     tasks: [Task; 32],
     dispatches: &mut [u32; 32],
