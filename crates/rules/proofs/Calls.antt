@@ -1,6 +1,6 @@
--- Laws of tick and completion on any state: the three ways of a judged call, that a refused call returns the state it was given, that
--- what stands past the counts never changes, and that a state in range stays one: the plan stays, and what is recorded anew is the
--- cycle of a state in range or the next one.
+-- Laws of tick and completion on any state: the three ways of a judged call, that both statements admit one answer only, that a
+-- refused call returns the state it was given, that what stands past the counts never changes, and that a state in range stays one: the
+-- plan stays, and what is recorded anew is the cycle of a state in range or the next one.
 use mathlib.Core.Path.{_≡_, refl, ap, sym, _∙_}
 use mathlib.Core.Bool.{Bool, true, false}
 use mathlib.Core.Logic.{⊎-elim}
@@ -13,6 +13,7 @@ use Rattle.rules.specs.Refusals.{nothingRuns, isHalted, outOfRange}
 use Rattle.rules.specs.Steps.{step, released, records, delivered, dispatched, missing, someRuns, running, chosen, advanced, ticking, endedAt, completing}
 use Rattle.rules.specs.Range.{inRange}
 use Rattle.rules.specs.Calls.{judged, tickOf, completeOf}
+use Rattle.rules.specs.Answers.{StepIs}
 use Rattle.rules.specs.Runs.{refused}
 use Rattle.rules.specs.declared.State.{State}
 use Rattle.rules.specs.declared.Step.{Step}
@@ -20,6 +21,7 @@ use Rattle.rules.specs.declared.Answer.{Answer}
 use Rattle.rules.specs.declared.Answer.the-variants as answer
 use Rattle.rules.proofs.Tests.{cond-by, false-true, eq-or}
 use Rattle.rules.proofs.Counting.{mapBelow-keeps}
+use Rattle.rules.proofs.Answers.{step-one}
 use Rattle.rules.proofs.Steps.{SamePlan, chosen-answer, chosen-dispatch, chosen-cycle}
 use Rattle.rules.proofs.Range.{Ranged, inRange-ranged, ranged-inRange}
 use Rattle.rules.proofs.Kept.{Kept, kept-refl, moved-on-kept, ticking-kept, completing-kept}
@@ -46,6 +48,15 @@ unfolding judged
 judged-by P true true s r stop go = stop isHalted
 judged-by P true false s r stop go = go refl refl
 judged-by P false halted s r stop go = stop outOfRange
+
+-- ---------------------------------------------------------------------------------------------------------------------------
+-- The statements of tick and completion admit one answer each.
+
+pub tick-one : (s : State) (r q : Step) → StepIs (tickOf s) r → StepIs (tickOf s) q → r ≡ q
+tick-one s = step-one (tickOf s)
+
+pub complete-one : (s : State) (w : ℕ) (r q : Step) → StepIs (completeOf s w) r → StepIs (completeOf s w) q → r ≡ q
+complete-one s w = step-one (completeOf s w)
 
 -- ---------------------------------------------------------------------------------------------------------------------------
 -- "a refused tick or completion returns the state it was given"
