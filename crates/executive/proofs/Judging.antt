@@ -1,20 +1,14 @@
--- The tests 16 and 15 before a call is carried out, by the number k of the one that stands; and the columns put back after it.
+-- The tests 16 and 15 before a call is carried out: by the number k of the one that stands.
 use mathlib.Core.Path.{_≡_, refl, ap, sym, _∙_}
 use mathlib.Core.Bool.{Bool, true, false}
-use mathlib.Core.List.{List}
 use Prim.Native.Nat.{ℕ, _≤_, _<_}
 use native.Mathlib.Omega.{arith}
-use Rattle.rules.specs.Views.{moved}
 use Rattle.rules.specs.Steps.{step}
 use Rattle.rules.specs.Range.{inRange}
 use Rattle.rules.specs.Calls.{judged}
-use Rattle.rules.specs.Answers.{StepIs}
-use Rattle.rules.specs.declared.Task.{Task}
 use Rattle.rules.specs.declared.State.{State}
 use Rattle.rules.specs.declared.Step.{Step}
-use Rattle.rules.specs.declared.Answer.{Answer}
 use Rattle.rules.specs.declared.Answer.the-variants as answer
-use Rattle.rules.proofs.Answers.{step-refl}
 use Rattle.rules.proofs.Calls.{judged-out, judged-halted, judged-on}
 use Rattle.executive.specs.Range.{refusalOf}
 
@@ -36,18 +30,9 @@ module _ (s : State) (k : ℕ) (e : k ≡ refusalOf (inRange s) (s .halted)) whe
   pub not-halted-by : k ≤ 0 → s .halted ≡ false
   not-halted-by h = none (inRange s) (s .halted) k e h .1
 
-  module _ (carried r : Step) where
-    pub refused-by : 0 < k → r ≡ step (answer.Refused k 0) s → StepIs (judged (inRange s) (s .halted) s carried) r
-    refused-by h q = step-refl _ r (q ∙ stands (inRange s) (s .halted) s carried k e h)
+  module _ (carried : Step) where
+    pub refused-by : 0 < k → step (answer.Refused k 0) s ≡ judged (inRange s) (s .halted) s carried
+    refused-by h = stands (inRange s) (s .halted) s carried k e h
 
-    pub carried-out : k ≤ 0 → r ≡ carried → StepIs (judged (inRange s) (s .halted) s carried) r
-    carried-out h q = let w = none (inRange s) (s .halted) k e h in step-refl _ r (q ∙ sym (judged-on (inRange s) (s .halted) s carried (w .0) (w .1)))
-
--- the answer, with the columns put back into the state z
-abbrev pub put : State → List Task → List ℕ → List ℕ → List ℕ → List ℕ → Answer → Step
-put z tasks outputs dispatches buffers inputs a = step a (moved z tasks outputs dispatches buffers inputs (z .cycle) (z .ticked) (z .halted))
-
-pub put-same : (z y : State) (tasks tasks′ : List Task) (outputs outputs′ dispatches dispatches′ buffers buffers′ inputs inputs′ : List ℕ) (a b : Answer) →
-    z ≡ y → tasks ≡ tasks′ → outputs ≡ outputs′ → dispatches ≡ dispatches′ → buffers ≡ buffers′ → inputs ≡ inputs′ → a ≡ b →
-    put z tasks outputs dispatches buffers inputs a ≡ put y tasks′ outputs′ dispatches′ buffers′ inputs′ b
-put-same z y tasks tasks′ outputs outputs′ dispatches dispatches′ buffers buffers′ inputs inputs′ a b ez et eo ed eb ei ea = cc
+    pub carried-out : k ≤ 0 → carried ≡ judged (inRange s) (s .halted) s carried
+    carried-out h = let w = none (inRange s) (s .halted) k e h in sym (judged-on (inRange s) (s .halted) s carried (w .0) (w .1))

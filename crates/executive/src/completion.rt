@@ -3,11 +3,12 @@ ghost use mathlib.Core.Path.{_≡_};
 ghost use Prim.Native.Nat.{_<_, _≤_};
 ghost use Rattle.rules.specs.Counting.{mapBelow};
 ghost use Rattle.executive.specs.Columns.{postsIn};
-ghost use Rattle.executive.specs.Lent.{Completes};
+ghost use Rattle.executive.specs.Lent.{Completes, CompleteIs};
 ghost use Rattle.executive.specs.Marks.{Below};
 use crate::choice::Chosen;
 use crate::choice::choose;
 use crate::choice::run;
+use crate::range::refusal;
 use rules::Answer;
 use rules::Phase;
 use rules::Task;
@@ -39,7 +40,7 @@ fn post(
 
 // "Completion with a word ends the running task: the word is its output, it becomes idle .. Then choose as in 4". Where no
 // task runs nothing changes, and the answer is refusal 14.
-pub(crate) fn completing(
+fn completing(
     tasks: [Task; 32],
     outputs: &mut [u32; 32],
     buffers: &mut [u32; 64],
@@ -81,4 +82,63 @@ pub(crate) fn completing(
     let mut rest = tasks;
     rest[at] = Task { phase: Phase::Idle };
     run(rest, inputs, buffers, receivers, undelayed, order, n, m)
+}
+
+// Refusals 16 and 15 first: "a refused tick or completion returns the state it was given".
+pub(crate) fn complete_of(
+    tasks: [Task; 32],
+    outputs: &mut [u32; 32],
+    buffers: &mut [u32; 64],
+    inputs: &mut [u32; 64],
+    periods: &[u16; 32],
+    deadlines: &[u16; 32],
+    computes: &[u16; 32],
+    senders: &[u8; 64],
+    receivers: &[u8; 64],
+    undelayed: &[bool; 64],
+    order: &[u8; 32],
+    dispatches: &[u32; 32],
+    n: usize,
+    m: usize,
+    u: u32,
+    t: u32,
+    halted: bool,
+    word: u32,
+) -> Chosen
+    ensures { λ r. ⌜ CompleteIs n m u (now (periods .entry)) (now (deadlines .entry)) (now (computes .entry)) (now (senders .entry)) (now (receivers .entry)) (now (undelayed .entry)) (now (order .entry)) (now (dispatches .entry)) tasks (now (outputs .entry)) (now (buffers .entry)) (now (inputs .entry)) t halted word (now (outputs .exit)) (now (buffers .exit)) (now (inputs .exit)) r ⌝ }
+{
+    let k = refusal(
+        periods,
+        deadlines,
+        computes,
+        dispatches,
+        senders,
+        receivers,
+        order,
+        n,
+        m,
+        u,
+        t,
+        halted,
+    );
+    if 0 < k {
+        return Chosen {
+            answer: Answer::Refused(k, 0),
+            tasks: tasks,
+        };
+    }
+    completing(
+        tasks,
+        outputs,
+        buffers,
+        inputs,
+        senders,
+        receivers,
+        undelayed,
+        order,
+        dispatches,
+        n,
+        m,
+        word,
+    )
 }

@@ -3,26 +3,24 @@ ghost use mathlib.Core.Path.{_≡_};
 ghost use Rattle.rules.specs.Calls.{tickOf, completeOf};
 ghost use Rattle.rules.specs.Answers.{StepIs};
 ghost use Rattle.rules.specs.Fresh.{FreshIs};
-ghost use Rattle.executive.specs.Range.{refusalOf};
 use rules::Answer;
 use rules::State;
 use rules::Step;
 use rules::Verdict;
 
 mod start; // the columns of the tables
-mod range; // refusal 16
+mod range; // refusals 16 and 15
 mod phases; // idle, waiting or started
 mod deadlines; // step 1 of a tick, and step 5
 mod exchange; // steps 2 and 3
 mod choice; // step 4
-mod ticking; // all five
+mod ticking; // all five, and a tick that is refused
 mod completion; // the end of the running task
 
-use completion::completing;
-use range::in_range;
+use completion::complete_of;
 use start::fresh_state;
 use start::halted_zeros;
-use ticking::ticking;
+use ticking::tick_of;
 
 pub fn fresh(tasks: &[u16], connections: &[u16]) -> Step
     ensures { λ r. ⌜ FreshIs (now (tasks .entry)) (now (connections .entry)) r ⌝ }
@@ -47,25 +45,11 @@ pub fn fresh(tasks: &[u16], connections: &[u16]) -> Step
     }
 }
 
-// "Tick and completion test 16, 15 .. in that order": 0 where neither stands.
-fn refusal(ranged: bool, halted: bool) -> usize
-    ensures { λ r. ⌜ r ≡ refusalOf ranged halted ⌝ }
-{
-    if !ranged {
-        return 16;
-    }
-    if halted { 15 } else { 0 }
-}
-
 // The columns are taken out of the state, changed, and put back whole: an element reached inside the state would have all of it
-// copied. "a refused tick or completion returns the state it was given": then the columns are put back as they were.
+// copied.
 pub fn tick(s: State) -> Step
     ensures { λ r. ⌜ StepIs (tickOf s) r ⌝ }
 {
-    let n = s.count;
-    let m = s.rows;
-    let u = s.multiple;
-    let t = s.cycle;
     let periods = s.periods;
     let deadlines = s.deadlines;
     let computes = s.computes;
@@ -74,57 +58,40 @@ pub fn tick(s: State) -> Step
     let undelayed = s.undelayed;
     let order = s.order;
     let outputs = s.outputs;
-    let mut tasks = s.tasks;
+    let tasks = s.tasks;
     let mut dispatches = s.dispatches;
     let mut buffers = s.buffers;
     let mut inputs = s.inputs;
-    let mut next = s;
-    let ranged = in_range(
+    let r = tick_of(
+        tasks,
+        &mut dispatches,
+        &mut buffers,
+        &mut inputs,
         &periods,
         &deadlines,
         &computes,
-        &dispatches,
         &senders,
         &receivers,
+        &undelayed,
         &order,
-        n,
-        m,
-        u,
-        t,
+        &outputs,
+        s.count,
+        s.rows,
+        s.multiple,
+        s.cycle,
+        s.ticked,
+        s.halted,
     );
-    let k = refusal(ranged, s.halted);
-    let mut a = Answer::Refused(k, 0);
-    if k == 0 {
-        let r = ticking(
-            tasks,
-            &mut dispatches,
-            &mut buffers,
-            &mut inputs,
-            &periods,
-            &deadlines,
-            &senders,
-            &receivers,
-            &undelayed,
-            &order,
-            &outputs,
-            n,
-            m,
-            u,
-            t,
-            s.ticked,
-        );
-        let b = r.answer;
-        let y = r.tasks;
-        a = b;
-        tasks = y;
-        next.cycle = r.cycle;
-        next.ticked = r.ticked;
-        next.halted = r.halted;
-    }
-    next.tasks = tasks;
+    let a = r.answer;
+    let after = r.tasks;
+    let mut next = s;
+    next.tasks = after;
     next.dispatches = dispatches;
     next.buffers = buffers;
     next.inputs = inputs;
+    next.cycle = r.cycle;
+    next.ticked = r.ticked;
+    next.halted = r.halted;
     Step {
         answer: a,
         state: next,
@@ -134,10 +101,6 @@ pub fn tick(s: State) -> Step
 pub fn complete(s: State, word: u32) -> Step
     ensures { λ r. ⌜ StepIs (completeOf s word) r ⌝ }
 {
-    let n = s.count;
-    let m = s.rows;
-    let u = s.multiple;
-    let t = s.cycle;
     let periods = s.periods;
     let deadlines = s.deadlines;
     let computes = s.computes;
@@ -146,47 +109,34 @@ pub fn complete(s: State, word: u32) -> Step
     let undelayed = s.undelayed;
     let order = s.order;
     let dispatches = s.dispatches;
-    let mut tasks = s.tasks;
+    let tasks = s.tasks;
     let mut outputs = s.outputs;
     let mut buffers = s.buffers;
     let mut inputs = s.inputs;
-    let ranged = in_range(
+    let r = complete_of(
+        tasks,
+        &mut outputs,
+        &mut buffers,
+        &mut inputs,
         &periods,
         &deadlines,
         &computes,
-        &dispatches,
         &senders,
         &receivers,
+        &undelayed,
         &order,
-        n,
-        m,
-        u,
-        t,
+        &dispatches,
+        s.count,
+        s.rows,
+        s.multiple,
+        s.cycle,
+        s.halted,
+        word,
     );
-    let k = refusal(ranged, s.halted);
-    let mut a = Answer::Refused(k, 0);
-    if k == 0 {
-        let r = completing(
-            tasks,
-            &mut outputs,
-            &mut buffers,
-            &mut inputs,
-            &senders,
-            &receivers,
-            &undelayed,
-            &order,
-            &dispatches,
-            n,
-            m,
-            word,
-        );
-        let b = r.answer;
-        let y = r.tasks;
-        a = b;
-        tasks = y;
-    }
+    let a = r.answer;
+    let after = r.tasks;
     let mut ended = s;
-    ended.tasks = tasks;
+    ended.tasks = after;
     ended.outputs = outputs;
     ended.buffers = buffers;
     ended.inputs = inputs;

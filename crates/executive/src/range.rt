@@ -1,9 +1,9 @@
-// Refusal 16: a state out of range. The tests of times, recorded cycles and rows walk their columns without a branch.
+// Refusals 16 and 15. The tests of times, recorded cycles and rows walk their columns without a branch.
 ghost use mathlib.Core.Path.{_≡_};
 ghost use mathlib.Core.Bool.{true, _&&_};
 ghost use Prim.Native.Nat.{_<_, _≤_};
 ghost use Rattle.rules.specs.Counting.{allBelow};
-ghost use Rattle.executive.specs.Range.{sizesIn, timesIn, belowIn, rowIn, tasksIn, orderIn, tablesIn};
+ghost use Rattle.executive.specs.Range.{sizesIn, timesIn, belowIn, rowIn, tasksIn, orderIn, tablesIn, refusalOf};
 ghost use Rattle.executive.specs.Marks.{marked};
 
 // "a count .. outside the sizes", "a common multiple outside 1 to 720,720, a cycle .. not below it".
@@ -126,7 +126,7 @@ fn tables_fit(
 }
 
 // The sizes first: with them the tables can be walked.
-pub(crate) fn in_range(
+fn in_range(
     periods: &[u16; 32],
     deadlines: &[u16; 32],
     computes: &[u16; 32],
@@ -156,4 +156,40 @@ pub(crate) fn in_range(
         m,
         u,
     )
+}
+
+// "Tick and completion test 16, 15 .. in that order": 0 where neither stands.
+pub(crate) fn refusal(
+    periods: &[u16; 32],
+    deadlines: &[u16; 32],
+    computes: &[u16; 32],
+    dispatches: &[u32; 32],
+    senders: &[u8; 64],
+    receivers: &[u8; 64],
+    order: &[u8; 32],
+    n: usize,
+    m: usize,
+    u: u32,
+    t: u32,
+    halted: bool,
+) -> usize
+    ensures { λ r. ⌜ r ≡ refusalOf (sizesIn n m u t && tablesIn (now (periods .entry)) (now (deadlines .entry)) (now (computes .entry)) (now (dispatches .entry)) (now (senders .entry)) (now (receivers .entry)) (now (order .entry)) n m u) halted ⌝ }
+{
+    let ranged = in_range(
+        periods,
+        deadlines,
+        computes,
+        dispatches,
+        senders,
+        receivers,
+        order,
+        n,
+        m,
+        u,
+        t,
+    );
+    if !ranged {
+        return 16;
+    }
+    if halted { 15 } else { 0 }
 }

@@ -1,11 +1,12 @@
-// The five steps of a tick, on the columns of a state that is in range and not halted.
+// Tick on the columns of a state: refusals 16 and 15, or the five steps.
 ghost use mathlib.Core.Path.{_≡_};
-ghost use Rattle.executive.specs.Lent.{Ranges, Ticks};
+ghost use Rattle.executive.specs.Lent.{Ranges, Ticks, TickIs};
 use crate::choice::run;
 use crate::deadlines::after;
 use crate::deadlines::first_missing;
 use crate::deadlines::mark;
 use crate::exchange::exchange;
+use crate::range::refusal;
 use rules::Answer;
 use rules::Task;
 
@@ -18,8 +19,8 @@ pub(crate) struct Ticked {
     pub(crate) halted: bool,
 }
 
-// "Tick at cycle t, in this order". Step 5 looks at nothing that step 4 changes, so its cycle goes out with the answer.
-pub(crate) fn ticking(
+// Where the columns are in range and nothing is halted. "Tick at cycle t, in this order". Step 5 looks at nothing that step 4 changes, so its cycle goes out with the answer.
+fn ticking(
     tasks: [Task; 32],
     dispatches: &mut [u32; 32],
     buffers: &mut [u32; 64],
@@ -80,4 +81,70 @@ pub(crate) fn ticking(
         ticked: true,
         halted: false,
     }
+}
+
+// "a refused tick or completion returns the state it was given"
+pub(crate) fn tick_of(
+    tasks: [Task; 32],
+    dispatches: &mut [u32; 32],
+    buffers: &mut [u32; 64],
+    inputs: &mut [u32; 64],
+    periods: &[u16; 32],
+    deadlines: &[u16; 32],
+    computes: &[u16; 32],
+    senders: &[u8; 64],
+    receivers: &[u8; 64],
+    undelayed: &[bool; 64],
+    order: &[u8; 32],
+    outputs: &[u32; 32],
+    n: usize,
+    m: usize,
+    u: u32,
+    t: u32,
+    ticked: bool,
+    halted: bool,
+) -> Ticked
+    ensures { λ r. ⌜ TickIs n m u (now (periods .entry)) (now (deadlines .entry)) (now (computes .entry)) (now (senders .entry)) (now (receivers .entry)) (now (undelayed .entry)) (now (order .entry)) (now (outputs .entry)) tasks (now (dispatches .entry)) (now (buffers .entry)) (now (inputs .entry)) t ticked halted (now (dispatches .exit)) (now (buffers .exit)) (now (inputs .exit)) r ⌝ }
+{
+    let k = refusal(
+        periods,
+        deadlines,
+        computes,
+        dispatches,
+        senders,
+        receivers,
+        order,
+        n,
+        m,
+        u,
+        t,
+        halted,
+    );
+    if 0 < k {
+        return Ticked {
+            answer: Answer::Refused(k, 0),
+            tasks: tasks,
+            cycle: t,
+            ticked: ticked,
+            halted: halted,
+        };
+    }
+    ticking(
+        tasks,
+        dispatches,
+        buffers,
+        inputs,
+        periods,
+        deadlines,
+        senders,
+        receivers,
+        undelayed,
+        order,
+        outputs,
+        n,
+        m,
+        u,
+        t,
+        ticked,
+    )
 }
