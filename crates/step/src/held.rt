@@ -5,13 +5,13 @@ ghost use Rattle.calls.specs.Line.{callOf};
 ghost use Rattle.step.specs.Session.{keeping};
 ghost use Rattle.step.specs.Serving.{held};
 
-pub struct Held {
-    pub bytes: [u8; 13],
-    pub count: usize,
+pub(crate) struct Held {
+    pub(crate) bytes: [u8; 13],
+    pub(crate) count: usize,
 }
 
 // No byte of a line.
-pub fn nothing() -> Held
+pub(crate) fn nothing() -> Held
     ensures { λ r. ⌜ held r ≡ [] ⌝ }
 {
     let bytes = [0u8; 13];
@@ -19,7 +19,7 @@ pub fn nothing() -> Held
 }
 
 // One byte more of the line.
-pub fn keep(h: Held, b: u8) -> Held
+pub(crate) fn keep(h: Held, b: u8) -> Held
     ensures { λ r. ⌜ held r ≡ keeping (held h) b ⌝ }
 {
     let count = h.count;
@@ -36,7 +36,7 @@ pub fn keep(h: Held, b: u8) -> Held
 }
 
 // What the line asks for.
-pub fn asked(h: Held) -> calls::Call
+pub(crate) fn asked(h: Held) -> calls::Call
     ensures { λ r. ⌜ r ≡ callOf (held h) ⌝ }
 {
     let count = h.count;

@@ -5,7 +5,7 @@ use rules::Reading;
 use rules::Step;
 
 // A refused file has the state of a fresh start that is refused: halted, all zeros.
-pub fn opened(file: &[u8]) -> Step
+pub(crate) fn opened(file: &[u8]) -> Step
     ensures { λ r. ⌜ OpenIs (now (file .entry)) r ⌝ }
 {
     let mut tasks = [0u16; 160];

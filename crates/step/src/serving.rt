@@ -13,22 +13,22 @@ use rules::State;
 use rules::Step;
 
 // Between two bytes: the state, and the line that has begun. It goes on until the input has ended or a write has failed.
-pub struct Desk {
-    pub state: State,
-    pub line: Held,
-    pub going: bool,
+pub(crate) struct Desk {
+    pub(crate) state: State,
+    pub(crate) line: Held,
+    pub(crate) going: bool,
 }
 
 // A state, and the place behind what was printed.
-pub struct Obeyed {
-    pub state: State,
-    pub end: usize,
+pub(crate) struct Obeyed {
+    pub(crate) state: State,
+    pub(crate) end: usize,
 }
 
 // A desk, and how much was printed.
-pub struct Served {
-    pub desk: Desk,
-    pub end: usize,
+pub(crate) struct Served {
+    pub(crate) desk: Desk,
+    pub(crate) end: usize,
 }
 
 // The answer of the executive, printed at a place.
@@ -58,7 +58,7 @@ fn obey(state: State, call: Call, out: &mut [u8], at: usize) -> Obeyed
 }
 
 // A piece of the input: each byte goes to the line that has begun, or ends it and has it answered.
-pub fn serve(desk: Desk, bytes: &[u8], out: &mut [u8]) -> Served
+pub(crate) fn serve(desk: Desk, bytes: &[u8], out: &mut [u8]) -> Served
     requires { ⌜ 50 * length (now bytes) ≤ length (now out) ⌝ }
     ensures { λ r. ⌜ Serves desk (now (bytes .entry)) (now (out .entry)) r (now (out .exit)) ⌝ }
     ensures { λ r. ⌜ Counts (r .end) (now (out .exit)) ⌝ }
@@ -89,7 +89,7 @@ pub fn serve(desk: Desk, bytes: &[u8], out: &mut [u8]) -> Served
 }
 
 // The input's end: a last line counts if it has a byte.
-pub fn finish(desk: Desk, out: &mut [u8]) -> usize
+pub(crate) fn finish(desk: Desk, out: &mut [u8]) -> usize
     requires { ⌜ 50 ≤ length (now out) ⌝ }
     ensures { λ r. ⌜ Finishes desk (now (out .entry)) r (now (out .exit)) ⌝ }
     ensures { λ r. ⌜ Counts r (now (out .exit)) ⌝ }
