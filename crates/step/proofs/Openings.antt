@@ -1,6 +1,6 @@
 -- From the reader's answer and fresh start's to what the program makes of a file; and for a machine file and an input it prints one text:
 -- a file has one fresh start, and a refused one is printed alone.
-use mathlib.Core.Path.{_≡_, refl, sym, ap, _∙_}
+use mathlib.Core.Path.{_≡_, sym, ap, _∙_}
 use mathlib.Core.List.{List}
 use Prim.Native.Nat.{ℕ, _≤_}
 use lib.ListN.{take}

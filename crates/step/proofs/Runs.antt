@@ -2,7 +2,7 @@
 -- buffer is what is printed; the moments go on along the pieces, so the texts are that of the joined pieces, byte by byte, and then that of
 -- their lines. The first 643 bytes decide the file.
 use mathlib.Core.Path.{_≡_, refl, ap, _∙_}
-use mathlib.Core.List.{List, [], _∷_, _++_, append-assoc, flatten}
+use mathlib.Core.List.{List, [], _++_, append-assoc, flatten}
 use Prim.Native.Nat.{ℕ, _≤_}
 use native.Mathlib.Omega.{arith}
 use lib.ListN.{take}

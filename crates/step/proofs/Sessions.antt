@@ -1,21 +1,21 @@
 -- Input that comes in pieces prints what it prints as a whole, and byte by byte, with 13 bytes kept of a line, the program prints what
 -- 01 says of the lines: what is kept of a line asks for what the whole line asks for, and is empty only if the line is.
-use mathlib.Core.Path.{_≡_, refl, sym, ap, subst, _∙_}
-use mathlib.Core.Bool.{Bool, true, false, cond}
+use mathlib.Core.Path.{_≡_, refl, sym, ap, _∙_}
+use mathlib.Core.Bool.{true, false}
 use mathlib.Core.List.{List, [], _∷_, _++_, append-assoc, append-nil}
 use mathlib.Core.Logic.{⊎-elim}
-use Prim.Native.Nat.{ℕ, zero, suc, _+_, _≤_, _<_}
+use Prim.Native.Nat.{ℕ, suc, _+_, _<_}
 use native.Mathlib.Omega.{arith}
 use native.Mathlib.Numerals.{add-one}
-use lib.ListN.{length, take, getD, length-take, length-append}
+use lib.ListN.{length, take, getD}
 use lib.Seq.{take-suc, take-all, length-take-le, take-append-le, take-take}
 use lib.Dec.{ltb}
-use borrow.Author.Tests.{lt-ltb, le-ltb}
+use borrow.Author.Tests.{lt-ltb}
 use Rattle.rules.specs.declared.State.{State}
 use Rattle.rules.proofs.Tests.{byTest, lt-or}
 use Rattle.calls.specs.Line.{callOf}
 use Rattle.calls.proofs.Decode.{call-front}
-use Rattle.step.specs.Session.{Said, obeyed, ends, linesFrom, answersTo, sessionText, mostKept, keeping, Moment, moment, answered, next, printed, after, text, last}
+use Rattle.step.specs.Session.{obeyed, ends, linesFrom, answersTo, sessionText, mostKept, keeping, Moment, moment, answered, next, printed, after, text, last}
 
 -- ---------------------------------------------------------------------------------------------------------------------------
 -- pieces

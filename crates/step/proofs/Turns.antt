@@ -1,7 +1,7 @@
 -- One byte more of a piece: the desk is the moment behind the bytes so far, and what they print stands in front of the buffer, 50 bytes at
 -- most for each of them.
-use mathlib.Core.Path.{_≡_, refl, sym, ap, subst, _∙_}
-use mathlib.Core.List.{List, [], _∷_, _++_, append-nil}
+use mathlib.Core.Path.{_≡_, refl, sym, subst, _∙_}
+use mathlib.Core.List.{List, [], append-nil}
 use Prim.Native.Nat.{ℕ, _+_, _*_, _≤_, _<_}
 use native.Mathlib.Omega.{arith}
 use lib.ListN.{length, take, getD}
@@ -15,9 +15,8 @@ use Rattle.calls.specs.Line.{callOf}
 use Rattle.text.specs.Lines.{answerLine}
 use Rattle.text.specs.Buffers.{Put}
 use Rattle.text.proofs.Filling.{put-none, put-then, put-more}
-use Rattle.step.specs.Session.{Said, said, obeyed, ends, keeping, Moment, moment, answered, next, printed, after, text, last}
-use Rattle.step.specs.Serving.{held, Prints}
-use Rattle.step.specs.declared.held.Held.{Held}
+use Rattle.step.specs.Session.{said, obeyed, keeping, Moment, moment, answered, next, printed, after, text, last}
+use Rattle.step.specs.Serving.{Prints}
 use Rattle.step.specs.declared.serving.Obeyed.{Obeyed}
 use Rattle.step.proofs.Sessions.{after-more, text-more}
 

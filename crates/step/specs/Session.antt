@@ -1,14 +1,12 @@
 -- 01: "Standard input has one call a line .. For each it prints `running` and a task, `idle`, `missed` and a task, or `refused`, number
 -- and place; any other line prints `bad line` and changes nothing."
-use mathlib.Core.Path.{_≡_}
-use mathlib.Core.Bool.{Bool, true, false, cond}
+use mathlib.Core.Bool.{Bool, cond}
 use mathlib.Core.List.{List, [], _∷_, _++_}
 use Prim.Native.Nat.{ℕ}
 use lib.ListN.{length, take}
 use lib.Dec.{ltb, eqb}
 use Rattle.rules.specs.Calls.{tickOf, completeOf}
 use Rattle.rules.specs.declared.State.{State}
-use Rattle.rules.specs.declared.Step.{Step}
 use Rattle.calls.specs.Line.{callOf}
 use Rattle.calls.specs.declared.Call.{Call}
 use Rattle.calls.specs.declared.Call.the-variants.{Tick, Complete, Bad}

@@ -1,5 +1,4 @@
 // Calls answered one by one, and bytes served in pieces of any size.
-ghost use mathlib.Core.Path.{_≡_};
 ghost use Prim.Native.Nat.{_+_, _*_, _≤_};
 ghost use lib.ListN.{length};
 ghost use Rattle.io.specs.Counts.{Counts};
@@ -20,9 +19,9 @@ pub(crate) struct Desk {
 }
 
 // A state, and the place behind what was printed.
-pub(crate) struct Obeyed {
-    pub(crate) state: State,
-    pub(crate) end: usize,
+struct Obeyed {
+    state: State,
+    end: usize,
 }
 
 // A desk, and how much was printed.
