@@ -1,9 +1,8 @@
 -- No function of a kind that 01 names as wrong meets the statement: each statement admits one answer only, and a case of the bench or
--- the session has an answer that a function of that kind does not give.
+-- the session, which a program can be given, has an answer that a function of that kind does not give.
 use mathlib.Core.Path.{_≡_, refl, sym, _∙_, ap}
 use mathlib.Core.Bool.{true, false}
 use mathlib.Core.List.{List, [], _∷_, _++_}
-use mathlib.Core.Logic.{_⊎_, ⊎-elim}
 use Prim.Native.Nat.{ℕ}
 use native.Mathlib.Omega.{arith}
 use lib.ListN.{getD, replicate}
@@ -26,34 +25,57 @@ use Rattle.rules.proofs.Plans.{plan-one}
 use Rattle.rules.proofs.Deciding.{first, others}
 use Rattle.rules.proofs.Bench.{task, plain, periodic, undelayed, delayed, accepted, ticks}
 use Rattle.rules.proofs.Cases.{all-cases}
-use Rattle.rules.proofs.Session.{session, sessionTasks, sessionRows, sessionPlan, session-planned}
+use Rattle.rules.proofs.Answers.{answerSays-injective}
+use Rattle.rules.proofs.Session.{session}
+use Rattle.demands.specs.Programs.{Bits, Slice, Held}
+use Rattle.demands.proofs.Programs.{sliceOf, heldOf}
 use Rattle.demands.specs.ShutOut.{Planner, MeetsPlan, RefusesAllTables, FixesOrder, Reader, MeetsRead, RefusesAllFiles, Ticker, Completer, MeetsTick, MeetsComplete, NamesNone, Leaves, CopiesAtFirstOnly}
 
 -- ---------------------------------------------------------------------------------------------------------------------------
--- The planner: the session's tables are accepted with the order 0, 1, 2, and those of M5 with the order 1, 0
+-- The planner: M2 and M5 have two tasks each, and are accepted with the orders 0, 1 and 1, 0
 
-pub no-planner-refuses-all : (f : Planner) → MeetsPlan f → RefusesAllTables f → ⊥
-no-planner-refuses-all f meets refuses =
-    let e : f sessionTasks sessionRows ≡ sessionPlan = plan-one sessionTasks sessionRows _ _ (meets sessionTasks sessionRows) session-planned in
-    let r = refuses sessionTasks sessionRows in
-    let v : verdict.Accepted ≡ verdict.Refused (r .0) (r .1) = ap (λ (p : Plan). p .verdict) (sym e) ∙ r .2 in
-    let z : _≡_ {A = ℕ} 0 1 = cc in
-    omega arith
+abbrev tasksM2 : List ℕ
+tasksM2 = periodic 4 ++ periodic 6
+
+abbrev planM2 : Plan
+planM2 = accepted (0 ∷ 1 ∷ []) (256 ∷ 384 ∷ []) (0 ∷ 0 ∷ []) 12
+
+abbrev tasksM5 : List ℕ
+tasksM5 = plain ++ plain
 
 abbrev planM5 : Plan
 planM5 = accepted (1 ∷ 0 ∷ []) (640 ∷ 639 ∷ []) (0 ∷ 0 ∷ []) 10
 
-pub no-planner-fixes-order : (f : Planner) → MeetsPlan f → FixesOrder f → ⊥
-no-planner-fixes-order f meets fixes =
-    let e : f sessionTasks sessionRows ≡ sessionPlan = plan-one sessionTasks sessionRows _ _ (meets sessionTasks sessionRows) session-planned in
-    let d : f (plain ++ plain) (undelayed 1 0) ≡ planM5 =
-    plan-one (plain ++ plain) (undelayed 1 0) _ _ (meets (plain ++ plain) (undelayed 1 0)) (first (others (others (others (others all-cases)))) .0) in
-    let a : sessionPlan .order ≡ fixes .0 =
-    ap (λ (p : Plan). p .order) (sym e) ∙ fixes .1 sessionTasks sessionRows (ap (λ (p : Plan). p .verdict) e) in
-    let b : planM5 .order ≡ fixes .0 =
-    ap (λ (p : Plan). p .order) (sym d) ∙ fixes .1 (plain ++ plain) (undelayed 1 0) (ap (λ (p : Plan). p .verdict) d) in
-    let z : _≡_ {A = ℕ} 0 1 = ap (λ (l : List ℕ). getD l 0 0) (a ∙ sym b) in
-    omega arith
+lentM2 : Slice 16 tasksM2 × Slice 16 (delayed 0 1)
+lentM2 = (sliceOf 16 tasksM2 .if-true refl, sliceOf 16 (delayed 0 1) .if-true refl)
+
+lentM5 : Slice 16 tasksM5 × Slice 16 (undelayed 1 0)
+lentM5 = (sliceOf 16 tasksM5 .if-true refl, sliceOf 16 (undelayed 1 0) .if-true refl)
+
+module _ (f : Planner) (meets : MeetsPlan f) where
+  plans-M2 : f tasksM2 (delayed 0 1) ≡ planM2
+  plans-M2 = plan-one tasksM2 (delayed 0 1) _ _ (meets tasksM2 (delayed 0 1) (lentM2 .0) (lentM2 .1)) (first (others all-cases) .0)
+
+  plans-M5 : f tasksM5 (undelayed 1 0) ≡ planM5
+  plans-M5 =
+      plan-one tasksM5 (undelayed 1 0) _ _ (meets tasksM5 (undelayed 1 0) (lentM5 .0) (lentM5 .1))
+      (first (others (others (others (others all-cases)))) .0)
+
+  pub no-planner-refuses-all : RefusesAllTables f → ⊥
+  no-planner-refuses-all refuses =
+      let r = refuses tasksM2 (delayed 0 1) (lentM2 .0) (lentM2 .1) in
+      let v : verdict.Accepted ≡ verdict.Refused (r .0) (r .1) = ap (λ (p : Plan). p .verdict) (sym plans-M2) ∙ r .2 in
+      let z : _≡_ {A = ℕ} 0 1 = cc in
+      omega arith
+
+  pub no-planner-fixes-order : FixesOrder f → ⊥
+  no-planner-fixes-order (order, fixes) =
+      let a : planM2 .order ≡ order 2 =
+      ap (λ (p : Plan). p .order) (sym plans-M2) ∙ fixes tasksM2 (delayed 0 1) (lentM2 .0) (lentM2 .1) (ap (λ (p : Plan). p .verdict) plans-M2) in
+      let b : planM5 .order ≡ order 2 =
+      ap (λ (p : Plan). p .order) (sym plans-M5) ∙ fixes tasksM5 (undelayed 1 0) (lentM5 .0) (lentM5 .1) (ap (λ (p : Plan). p .verdict) plans-M5) in
+      let z : _≡_ {A = ℕ} 0 1 = ap (λ (l : List ℕ). getD l 0 0) (a ∙ sym b) in
+      omega arith
 
 -- ---------------------------------------------------------------------------------------------------------------------------
 -- The reader: "EN alone reads 0 tasks"
@@ -69,19 +91,23 @@ pub no-reader-refuses-all : (f : Reader) → MeetsRead f → RefusesAllFiles f �
 no-reader-refuses-all f meets refuses =
     let ts : List ℕ = replicate mostTaskWords 0 in
     let cs : List ℕ = replicate mostRowWords 0 in
-    let r = refuses endAlone ts cs in
-    let e = meets endAlone ts cs .told ∙ ap readingSays end-alone-read in
+    let lent : Slice 8 endAlone = sliceOf 8 endAlone .if-true refl in
+    let lent-tasks : Slice 16 ts = sliceOf 16 (replicate mostTaskWords 0) .if-true refl in
+    let lent-rows : Slice 16 cs = sliceOf 16 (replicate mostRowWords 0) .if-true refl in
+    let r = refuses endAlone ts cs lent lent-tasks lent-rows in
+    let e = meets endAlone ts cs lent lent-tasks lent-rows .told ∙ ap readingSays end-alone-read in
     let z : _≡_ {A = ℕ} 0 5 = ap (λ (t : Told). t .kind) (sym (ap readingSays (r .2)) ∙ e) in
     omega arith
 
 -- ---------------------------------------------------------------------------------------------------------------------------
 -- The executive: the session's first tick runs task 0, and its completion runs task 1; both change the state
 
-none-is-not-running : (a : Answer) (i : ℕ) → NamesNone a → answerSays a ≡ told 1 0 i → ⊥
-none-is-not-running a i n e =
-    ⊎-elim
-    (λ q. let z : _≡_ {A = ℕ} 2 1 = ap (λ (t : Told). t .kind) (sym (ap answerSays q) ∙ e) in omega arith)
-    (λ w. let z : _≡_ {A = ℕ} 3 1 = ap (λ (t : Told). t .kind) (sym (ap answerSays (w .1)) ∙ e) in omega arith) n
+names-one : (a : Answer) (i : ℕ) → NamesNone a → answerSays a ≡ told 1 0 i → ⊥
+names-one a i n e = n i (answerSays-injective a (answer.Running i) e)
+
+session-held : Held session
+unfolding freshState
+session-held = heldOf session .if-true refl
 
 first-tick : answerSays (tickOf session .answer) ≡ told 1 0 0
 unfolding freshState inRange judged delivered dispatched startedAt chosen advanced ticking
@@ -94,12 +120,17 @@ first-completion : answerSays (completeOf ticked 11 .answer) ≡ told 1 0 1
 unfolding freshState inRange judged delivered dispatched startedAt chosen advanced ticking endedAt completing
 first-completion = refl
 
-pub no-tick-names-none : (f : Ticker) → MeetsTick f → ((s : State) → NamesNone (f s .answer)) → ⊥
-no-tick-names-none f meets none = none-is-not-running (f session .answer) 0 (none session) (meets session .answer ∙ first-tick)
+ticked-held : Held ticked
+unfolding freshState inRange judged delivered dispatched startedAt chosen advanced ticking
+ticked-held = heldOf ticked .if-true refl
 
-pub no-completion-names-none : (f : Completer) → MeetsComplete f → ((s : State) (w : ℕ) → NamesNone (f s w .answer)) → ⊥
+pub no-tick-names-none : (f : Ticker) → MeetsTick f → ((s : State) → Held s → NamesNone (f s .answer)) → ⊥
+no-tick-names-none f meets none =
+    names-one (f session .answer) 0 (none session session-held) (meets session session-held .answer ∙ first-tick)
+
+pub no-completion-names-none : (f : Completer) → MeetsComplete f → ((s : State) (w : ℕ) → Held s → Bits 32 w → NamesNone (f s w .answer)) → ⊥
 no-completion-names-none f meets none =
-    none-is-not-running (f ticked 11 .answer) 1 (none ticked 11) (meets ticked 11 .answer ∙ first-completion)
+    names-one (f ticked 11 .answer) 1 (none ticked 11 ticked-held (omega arith)) (meets ticked 11 ticked-held (omega arith) .answer ∙ first-completion)
 
 tick-moves : tickOf session .state .cycle ≡ 1
 unfolding freshState inRange judged delivered dispatched startedAt chosen advanced ticking
@@ -109,9 +140,9 @@ start-stands : session .cycle ≡ 0
 unfolding freshState
 start-stands = refl
 
-pub no-tick-leaves-state : (f : Ticker) → MeetsTick f → ((s : State) → Leaves s (f s)) → ⊥
+pub no-tick-leaves-state : (f : Ticker) → MeetsTick f → ((s : State) → Held s → Leaves s (f s)) → ⊥
 no-tick-leaves-state f meets leaves =
-    let e : tickOf session .state ≡ session = sym (meets session .state) ∙ leaves session in
+    let e : tickOf session .state ≡ session = sym (meets session session-held .state) ∙ leaves session session-held in
     let z : _≡_ {A = ℕ} 1 0 = sym tick-moves ∙ ap (λ (s : State). s .cycle) e ∙ start-stands in
     omega arith
 
@@ -123,9 +154,10 @@ ticked-stands : output ticked 0 ≡ 0
 unfolding freshState inRange judged delivered dispatched startedAt chosen advanced ticking
 ticked-stands = refl
 
-pub no-completion-leaves-state : (f : Completer) → MeetsComplete f → ((s : State) (w : ℕ) → Leaves s (f s w)) → ⊥
+pub no-completion-leaves-state : (f : Completer) → MeetsComplete f → ((s : State) (w : ℕ) → Held s → Bits 32 w → Leaves s (f s w)) → ⊥
 no-completion-leaves-state f meets leaves =
-    let e : completeOf ticked 11 .state ≡ ticked = sym (meets ticked 11 .state) ∙ leaves ticked 11 in
+    let e : completeOf ticked 11 .state ≡ ticked =
+    sym (meets ticked 11 ticked-held (omega arith) .state) ∙ leaves ticked 11 ticked-held (omega arith) in
     let z : _≡_ {A = ℕ} 11 0 = sym completion-moves ∙ ap (λ (s : State). output s 0) e ∙ ticked-stands in
     omega arith
 
@@ -149,9 +181,13 @@ buffer-after : buffer (tickOf beforeFive .state) 0 ≡ 7
 unfolding freshState inRange judged delivered dispatched startedAt chosen advanced ticking endedAt completing
 buffer-after = refl
 
+five-held : Held beforeFive
+unfolding freshState inRange judged delivered dispatched startedAt chosen advanced ticking endedAt completing
+five-held = heldOf beforeFive .if-true refl
+
 pub no-copies-at-first-only : (f : Ticker) → MeetsTick f → CopiesAtFirstOnly f → ⊥
 no-copies-at-first-only f meets copies =
     let e : tickOf beforeFive .state .buffers ≡ beforeFive .buffers =
-    ap (λ (s : State). s .buffers) (sym (meets beforeFive .state)) ∙ copies beforeFive was-ticked .0 in
+    ap (λ (s : State). s .buffers) (sym (meets beforeFive five-held .state)) ∙ copies beforeFive five-held was-ticked .0 in
     let z : _≡_ {A = ℕ} 7 0 = sym buffer-after ∙ ap (λ (l : List ℕ). getD l 0 0) e ∙ buffer-before in
     omega arith

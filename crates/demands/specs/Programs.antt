@@ -1,0 +1,43 @@
+-- What a program can be given and can give: the values that the types of the entry points hold (crates/rules/src/lib.rt has the structs).
+use mathlib.Core.Path.{_≡_}
+use mathlib.Core.List.{List}
+use Prim.Native.Nat.{ℕ, _*_, _^_, _<_}
+use lib.ListN.{length, getD}
+use Rattle.rules.specs.Sizes.{mostTasks, mostRows}
+use Rattle.rules.specs.declared.State.{State}
+
+-- a number of b bits: `u8`, `u16`, `u32`, and `usize` with 64
+abbrev pub Bits : ℕ → ℕ → Type 0
+Bits b n = n < 2 ^ b
+
+abbrev pub Words : ℕ → List ℕ → Type 0
+Words b ws = (k : ℕ) → k < length ws → Bits b (getD ws k 0)
+
+-- `&[u8]`, `&[u16]`: a slice has less than 2^63 bytes, so less than 2^66 bits
+abbrev pub Slice : ℕ → List ℕ → Type 0
+Slice b ws = (length ws * b < 2 ^ 66) × Words b ws
+
+-- `[u16; 32]`: so many places of so many bits
+abbrev pub Column : ℕ → ℕ → List ℕ → Type 0
+Column b places ws = (length ws ≡ places) × Words b ws
+
+-- `State`, field by field
+pub record Held (s : State) : Type 0 where
+  pub count : Bits 64 (s .count)
+  pub rows : Bits 64 (s .rows)
+  pub periods : Column 16 mostTasks (s .periods)
+  pub deadlines : Column 16 mostTasks (s .deadlines)
+  pub computes : Column 16 mostTasks (s .computes)
+  pub criticalities : Column 8 mostTasks (s .criticalities)
+  pub enforced : length (s .enforced) ≡ mostTasks
+  pub senders : Column 8 mostRows (s .senders)
+  pub receivers : Column 8 mostRows (s .receivers)
+  pub undelayed : length (s .undelayed) ≡ mostRows
+  pub order : Column 8 mostTasks (s .order)
+  pub multiple : Bits 32 (s .multiple)
+  pub tasks : length (s .tasks) ≡ mostTasks
+  pub outputs : Column 32 mostTasks (s .outputs)
+  pub dispatches : Column 32 mostTasks (s .dispatches)
+  pub buffers : Column 32 mostRows (s .buffers)
+  pub inputs : Column 32 mostRows (s .inputs)
+  pub cycle : Bits 32 (s .cycle)
