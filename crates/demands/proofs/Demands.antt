@@ -14,28 +14,30 @@ use Rattle.rules.specs.Views.{sender}
 use Rattle.rules.specs.Plan.{Judges}
 use Rattle.rules.specs.Answers.{Told, answerSays, StepIs}
 use Rattle.rules.specs.Fresh.{FreshIs, startOf}
+use Rattle.rules.specs.Runs.{start, after}
 use Rattle.rules.proofs.Runs.Start.{fresh-planned}
 use Rattle.rules.proofs.Runs.Invariant.{Planned, start-laid}
-use Rattle.rules.proofs.Runs.Reads.{order-kept, numbered}
+use Rattle.rules.proofs.Runs.Reads.{order-kept, numbered, recorded, sampled}
 use Rattle.rules.proofs.Runs.Words.{delivered-started}
-use Rattle.rules.proofs.Runs.Twice.{sampled, two-runs}
+use Rattle.rules.proofs.Runs.Twice.{two-runs}
 use Rattle.rules.proofs.Runs.Always.{always-in-range, always-settled}
 use Rattle.demands.specs.Demands.{AcceptedStart, Demand}
 use Rattle.demands.proofs.Named.{counted-named}
 
-planned-demand : (s : State) → Planned s → Demand s
+planned-demand : (s : State) → Planned s → Demand s (after (start s))
 planned-demand s pl = record {
   order-kept = order-kept s pl;
   numbered = numbered s pl;
-  named = λ cs i k x j c h e.
-      let p = sampled s pl cs i k x j c h e in
-      let l = start-laid s pl in
-      counted-named s c _ (l .paced (sender s c) (l .sender-in c h) .period-pos) _ (x c) (p .0) (p .1);
+  recorded = recorded s pl;
+  named = λ cs h i k x j c l e.
+      let p = sampled s pl cs h i k x j c l e in
+      let laid = start-laid s pl in
+      counted-named s c _ (laid .paced (sender s c) (laid .sender-in c l) .period-pos) _ (x c) (p .0) (p .1);
   sampled = sampled s pl;
   two-runs = two-runs s pl;
-  in-range = always-in-range s pl;
-  runner-started = always-settled s pl;
-  delivered-started = delivered-started s pl;
+  in-range = λ cs _. always-in-range s pl cs;
+  runner-started = λ cs _. always-settled s pl cs;
+  delivered-started = λ cs _. delivered-started s pl cs;
 }
 
 -- by the verdict
@@ -45,7 +47,7 @@ unfolding startOf
 verdict-planned tw cw p r verdict.Accepted j h e = subst Planned (sym (h .state)) (fresh-planned tw cw p j)
 verdict-planned tw cw p r (verdict.Refused k q) j h e = absurd (let z : _≡_ {A = ℕ} 0 1 = cc in omega arith)
 
-pub demand : (tw cw : List ℕ) (r : Step) → AcceptedStart tw cw r → Demand (r .state)
+pub demand : (tw cw : List ℕ) (r : Step) → AcceptedStart tw cw r → Demand (r .state) (after (start (r .state)))
 demand tw cw r s =
     planned-demand (r .state) (verdict-planned tw cw (s .fresh .plan) r (s .fresh .plan .verdict) (s .fresh .planned) (s .fresh .starts) (s .accepted))
 

@@ -11,7 +11,7 @@ use Rattle.rules.specs.declared.Verdict.the-variants as verdict
 use Rattle.rules.specs.Views.{started, period, deadline, sender, receiver, undelayed, phaseOf}
 use Rattle.rules.specs.Range.{inRange}
 use Rattle.rules.specs.Fresh.{FreshIs}
-use Rattle.rules.specs.Runs.{Call, start, after, words, Runs, Job, OrderKept, Numbered, Sampled, TwoRuns}
+use Rattle.rules.specs.Runs.{Call, Sent, Run, Runs, JobAt, Job, OrderKept, Numbered, Recorded, Sampled, TwoRuns}
 
 -- "an accepted fresh start": r answers fresh start's call on the two tables, and the planner's verdict on them is that they are accepted
 pub record AcceptedStart (tw cw : List ℕ) (r : Step) : Type 0 where
@@ -28,23 +28,29 @@ pub record Named (s : State) (c r : ℕ) (ws : List ℕ) (v : ℕ) : Type 0 wher
   pub last : (j : ℕ) → InView s c r j → ((l : ℕ) → InView s c r l → l ≤ j) → (j < length ws) × (v ≡ getD ws j 0)
   pub none : ((j : ℕ) → InView s c r j → ⊥) → v ≡ 0
 
-pub record Demand (s : State) : Type 0 where
+-- "Each word a started job has read is the one that 01's sampling rule names from dispatch ticks and deadlines, with execution times
+-- nowhere in the rule."
+abbrev pub ReadsAsNamed : State → Run → Type 0
+ReadsAsNamed s run = (cs : List Call) → Sent cs → (i k : ℕ) (x : ℕ → ℕ) → JobAt s (run cs) i k x → (c : ℕ) → c < s .rows → receiver s c ≡ i →
+    Named s c (k * period s i) (run cs .words (sender s c)) (x c)
+
+-- the demand on the runs from a start
+pub record Demand (s : State) (run : Run) : Type 0 where
   -- "While a task runs, no task that sends to it undelayed has an unfinished job."
-  pub order-kept : OrderKept s
-  -- a started job of number k is the one dispatched at tick k periods, its task's latest dispatch
-  pub numbered : Numbered s
-  -- "Each word a started job has read is the one that 01's sampling rule names from dispatch ticks and deadlines, with execution times
-  -- nowhere in the rule": in 01's words, and by the count of the sender's jobs
-  pub named : (cs : List Call) (i k : ℕ) (x : ℕ → ℕ) → Job s cs i k x → (c : ℕ) → c < s .rows → receiver s c ≡ i →
-      Named s c (k * period s i) (words s cs (sender s c)) (x c)
-  pub sampled : Sampled s
+  pub order-kept : OrderKept s run
+  -- a started job of number k is the one dispatched at tick k periods, its task's latest dispatch, and that tick's cycle is recorded
+  pub numbered : Numbered s run
+  pub recorded : Recorded s run
+  -- "Each word a started job has read is the one that 01's sampling rule names": in 01's words, and by the count of the sender's jobs
+  pub named : ReadsAsNamed s run
+  pub sampled : Sampled s run
   -- "So take two runs of one plan, where jobs of the same task and number that read equal words deliver equal words: every job started
   -- in both reads the same words in both, however long anything took."
-  pub two-runs : TwoRuns s
+  pub two-runs : TwoRuns s run
   -- besides: the state stays in range, so that no call is refused by 16
-  pub in-range : (cs : List Call) → inRange (after (start s) cs .state) ≡ true
+  pub in-range : (cs : List Call) → Sent cs → inRange (run cs .state) ≡ true
   -- whoever runs is started
-  pub runner-started : (cs : List Call) → after (start s) cs .state .halted ≡ false → (i : ℕ) → Runs (after (start s) cs .state) i →
-      started (phaseOf (after (start s) cs .state) i) ≡ true
+  pub runner-started : (cs : List Call) → Sent cs → run cs .state .halted ≡ false → (i : ℕ) → Runs (run cs .state) i →
+      started (phaseOf (run cs .state) i) ≡ true
   -- a job that delivers was started
-  pub delivered-started : (cs : List Call) (i k : ℕ) → k < length (words s cs i) → (x : ℕ → ℕ) × Job s cs i k x
+  pub delivered-started : (cs : List Call) → Sent cs → (i k : ℕ) → k < length (run cs .words i) → (x : ℕ → ℕ) × Job s run cs i k x

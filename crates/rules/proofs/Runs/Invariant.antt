@@ -15,7 +15,7 @@ use Rattle.rules.specs.Views.{idle, started, period, deadline, sender, r
 use Rattle.rules.specs.Range.{inRange, placeOf}
 use Rattle.rules.specs.Sampling.{upTo}
 use Rattle.rules.specs.Steps.{missing, delivered, dispatched, someRuns, running, endedAt, chosen, advanced}
-use Rattle.rules.specs.Runs.{Call, tick, complete, Moment, start, spoken, next, after, Through}
+use Rattle.rules.specs.Runs.{Call, tick, complete, Moment, start, spoken, next, after}
 use Rattle.rules.proofs.Tests.{true-false, false-true}
 use Rattle.rules.proofs.Range.{Ranged, inRange-ranged}
 use Rattle.rules.proofs.Steps.{SamePlan, chosen-plan, advanced-plan, endedAt-plan}
@@ -27,7 +27,7 @@ use Rattle.rules.proofs.Runs.Parts.{Laid, Fits, Parts, ClockOf, Delayed
 use Rattle.rules.proofs.Runs.Tick.{exchanged-parts, exchanged-clock, advanced-parts, advanced-clock}
 use Rattle.rules.proofs.Runs.Choice.{Settled, runner-in, runner-busy, chosen-parts, chosen-settled, chosen-clock}
 use Rattle.rules.proofs.Runs.Completion.{ended-parts, ended-clock}
-use Rattle.rules.proofs.Runs.Moments.{ticked, spoke, tick-by, word-by, to-end, through-keeps}
+use Rattle.rules.proofs.Runs.Moments.{ticked, spoke, tick-by, word-by, after-keeps}
 
 -- what an accepted fresh start gives: in range, what the planner adds to that, and all at rest
 pub record Planned (s : State) : Type 0 where
@@ -175,8 +175,5 @@ module _ (s : State) (pl : Planned s) where
     settled = λ i h. absurd (true-false (sym (pl .all-idle i (runner-in s start-laid i h)) ∙ runner-busy s start-laid i h));
   }
 
-  pub through-invariant : {m : Moment} {cs : List Call} → Through (start s) cs m → m .state .halted ≡ false → Invariant s m
-  through-invariant t h = through-keeps (Invariant s) (next-invariant s) t start-invariant h
-
   pub run-invariant : (cs : List Call) → after (start s) cs .state .halted ≡ false → Invariant s (after (start s) cs)
-  run-invariant cs h = through-invariant (to-end (start s) cs) h
+  run-invariant cs = after-keeps (Invariant s) (next-invariant s) cs (start s) start-invariant

@@ -1,14 +1,16 @@
 -- One call, by its cases: refused, it leaves the moment as it is; a tick misses or goes through its steps; a completion ends the task that
--- runs. And a run of calls: every moment of it before a miss comes from moments before a miss.
+-- runs. And a run of calls: what each call keeps before a miss, a run keeps before a miss, and a run goes on from the moment behind its
+-- first calls.
 use mathlib.Core.Path.{_≡_, refl, sym, _∙_, ap}
 use mathlib.Core.Bool.{true, false}
 use mathlib.Core.List.{List, [], _∷_}
-use Prim.Native.Nat.{ℕ, suc}
+use Prim.Native.Nat.{ℕ, zero, suc}
+use lib.ListN.{take, drop}
 use lib.Dec.{ltb}
 use Rattle.rules.specs.Views.{setHalted}
 use Rattle.rules.specs.Range.{inRange}
 use Rattle.rules.specs.Steps.{step, missing, delivered, dispatched, someRuns, running, endedAt, chosen, advanced, ticking, completing}
-use Rattle.rules.specs.Runs.{Call, tick, complete, Moment, spoken, after-tick, after-word, next, after, Through, here, further}
+use Rattle.rules.specs.Runs.{Call, tick, complete, Sent, Moment, spoken, after-tick, after-word, next, after}
 use Rattle.rules.proofs.Tests.{byTest, cond-by, true-false}
 use Rattle.rules.proofs.Calls.{judged-by, chosen-accepts}
 
@@ -55,18 +57,24 @@ pub halted-after : (cs : List Call) (m : Moment) → m .state .halted ≡ true �
 halted-after [] m h = refl
 halted-after (c ∷ cs) m h = ap (λ (k : Moment). after k cs) (stays m c h) ∙ halted-after cs m h
 
-through-halted : {m k : Moment} {cs : List Call} → Through m cs k → m .state .halted ≡ true → k .state .halted ≡ true
-through-halted here h = h
-through-halted (further {m = m} {c = c} t) h = through-halted t (ap (λ (x : Moment). x .state .halted) (stays m c h) ∙ h)
-
--- a run comes through its end
-pub to-end : (m : Moment) (cs : List Call) → Through m cs (after m cs)
-to-end m [] = here
-to-end m (c ∷ cs) = further (to-end (next m c) cs)
-
 -- what each call before a miss keeps, a run before a miss keeps
 module _ (Q : Moment → Type 0) (one : (m : Moment) (c : Call) → Q m → next m c .state .halted ≡ false → Q (next m c)) where
-  pub through-keeps : {m k : Moment} {cs : List Call} → Through m cs k → Q m → k .state .halted ≡ false → Q k
-  through-keeps here q h = q
-  through-keeps (further {m = m} {c = c} t) q h =
-      byTest (next m c .state .halted) (λ e. absurd (true-false (sym (through-halted t e) ∙ h))) (λ e. through-keeps t (one m c q e) h)
+  pub after-keeps : (cs : List Call) (m : Moment) → Q m → after m cs .state .halted ≡ false → Q (after m cs)
+  after-keeps [] m q h = q
+  after-keeps (c ∷ cs) m q h =
+      byTest (next m c .state .halted)
+      (λ e. absurd (true-false (sym e ∙ ap (λ (k : Moment). k .state .halted) (sym (halted-after cs (next m c) e)) ∙ h)))
+      (λ e. after-keeps cs (next m c) (one m c q e) h)
+
+-- a run of calls is that of the first n and then of the others
+pub after-split : (n : ℕ) (cs : List Call) (m : Moment) → after (after m (take n cs)) (drop n cs) ≡ after m cs
+after-split zero cs m = refl
+after-split (suc n) [] m = refl
+after-split (suc n) (c ∷ cs) m = after-split n cs (next m c)
+
+-- the first n of calls that can be made can be made
+pub sent-take : (n : ℕ) (cs : List Call) → Sent cs → Sent (take n cs)
+sent-take zero cs h = tt
+sent-take (suc n) [] h = tt
+sent-take (suc n) (tick ∷ cs) h = sent-take n cs h
+sent-take (suc n) (complete w ∷ cs) h = (h .0, sent-take n cs (h .1))

@@ -1,22 +1,23 @@
--- At each moment of a run before a miss: the order is kept, a started job is the one of its task's latest dispatch, and what it has read
--- is what the sampling rule names. First of a state by its own plan, then by the plan of the start.
-use mathlib.Core.Path.{_≡_, ap, subst}
+-- At each moment of a run before a miss: the order is kept, a started job is the one of its task's latest dispatch, whose cycle is the
+-- recorded one, and what it has read is what the sampling rule names. First of a state by its own plan, then by the plan of the start.
+use mathlib.Core.Path.{_≡_, _∙_, ap, subst}
 use mathlib.Core.Bool.{true, false}
 use mathlib.Core.List.{List}
-use Prim.Native.Nat.{ℕ, suc, _+_, _*_, _≤_, _<_}
+use Prim.Native.Nat.{ℕ, suc, _+_, _*_, _%_, _≤_, _<_}
 use native.Mathlib.Omega.{arith}
 use lib.ListN.{length}
 use Rattle.rules.specs.declared.Phase.{Phase}
 use Rattle.rules.specs.declared.State.{State}
-use Rattle.rules.specs.Views.{idle, started, period, sender, receiver, undelayed, phaseOf, input}
+use Rattle.rules.specs.Views.{idle, started, period, sender, receiver, undelayed, phaseOf, dispatch, input}
 use Rattle.rules.specs.Sampling.{said}
-use Rattle.rules.specs.Runs.{Moment, start, after, Runs, counted, JobAt, OrderKept, Numbered}
+use Rattle.rules.specs.Runs.{Moment, start, after, Runs, counted, JobAt, OrderKept, Numbered, Recorded, Sampled}
 use Rattle.rules.proofs.Tests.{byTest}
 use Rattle.rules.proofs.Runs.Jobs.{before, latest, before-above, dispatches-within}
+use Rattle.rules.proofs.Runs.OneTask.{working}
 use Rattle.rules.proofs.Runs.OneRow.{delayed-delivered}
 use Rattle.rules.proofs.Runs.Parts.{Laid, Parts, ends}
 use Rattle.rules.proofs.Runs.Choice.{sender-idle}
-use Rattle.rules.proofs.Runs.Invariant.{Planned, Invariant, apart, through-invariant, run-invariant}
+use Rattle.rules.proofs.Runs.Invariant.{Planned, Invariant, apart, run-invariant}
 
 -- a started task is at work
 at-work : (x : Phase) → started x ≡ true → idle x ≡ false
@@ -47,6 +48,11 @@ module _ (T : ℕ) (W : ℕ → List ℕ) (s : State) (p : Parts T W s) where
 
     latest-here : latest (period s i) T ≡ length (W i) * period s i
     latest-here = omega (arith, ap (λ (y : ℕ). y * period s i) last-job)
+
+    recorded-here : dispatch s i ≡ (length (W i) * period s i) % s .multiple
+    recorded-here =
+        let f = p .task-kept i h in
+        f .at-dispatch (working f (at-work (phaseOf s i) b)) ∙ ap (λ (y : ℕ). y % s .multiple) latest-here
 
   module _ (c : ℕ) (h : c < s .rows) (b : started (phaseOf s (receiver s c)) ≡ true) where
     ri : receiver s c < s .count
@@ -83,7 +89,14 @@ module _ (s : State) (m : Moment) (d : Invariant s m) where
         (subst (λ (z : State). Parts (m .ticks) (m .words) z → started (phaseOf z i) ≡ true → Latest (period s i) (length (m .words i)) (m .ticks)) (d .plan)
         (λ p. numbered-here (m .ticks) (m .words) _ p i (j .in-table)) (d .parts) (j .begun))
 
-    pub reads-at : (c : ℕ) → c < s .rows → receiver s c ≡ i → Says s c (k * period s i) (m .words (sender s c)) (x c)
+    recorded-at : dispatch (m .state) i ≡ (k * period s i) % s .multiple
+    recorded-at =
+        rw (j .number) at
+        (subst (λ (z : State). Parts (m .ticks) (m .words) z → started (phaseOf z i) ≡ true →
+        dispatch z i ≡ (length (m .words i) * period s i) % s .multiple) (d .plan)
+        (λ p. recorded-here (m .ticks) (m .words) _ p i (j .in-table)) (d .parts) (j .begun))
+
+    reads-at : (c : ℕ) → c < s .rows → receiver s c ≡ i → Says s c (k * period s i) (m .words (sender s c)) (x c)
     reads-at c h e =
         rw (e, j .number, j .has-read c h e) at
         (subst (λ (z : State). Parts (m .ticks) (m .words) z → started (phaseOf z (receiver s c)) ≡ true →
@@ -91,8 +104,14 @@ module _ (s : State) (m : Moment) (d : Invariant s m) where
         (λ p. reads-here (m .ticks) (m .words) _ p c h) (d .parts) (rw e (j .begun)))
 
 module _ (s : State) (pl : Planned s) where
-  pub order-kept : OrderKept s
-  order-kept cs h = idle-at s (after (start s) cs) (run-invariant s pl cs h)
+  pub order-kept : OrderKept s (after (start s))
+  order-kept cs _ h = idle-at s (after (start s) cs) (run-invariant s pl cs h)
 
-  pub numbered : Numbered s
-  numbered cs i k x (m, t, j) = numbered-at s m (through-invariant s pl t (j .live)) i k x j
+  pub numbered : Numbered s (after (start s))
+  numbered cs _ i k x j = numbered-at s (after (start s) cs) (run-invariant s pl cs (j .live)) i k x j
+
+  pub recorded : Recorded s (after (start s))
+  recorded cs _ i k x j = recorded-at s (after (start s) cs) (run-invariant s pl cs (j .live)) i k x j
+
+  pub sampled : Sampled s (after (start s))
+  sampled cs _ i k x j = reads-at s (after (start s) cs) (run-invariant s pl cs (j .live)) i k x j

@@ -5,19 +5,19 @@ use mathlib.Core.List.{List, [], _∷_, _++_}
 use mathlib.Core.Logic.{_⊎_, inl, inr}
 use Prim.Native.Nat.{ℕ, zero, suc, _≤_, _<_}
 use native.Mathlib.Omega.{arith}
-use lib.ListN.{length, getD, List·getD-append}
+use lib.ListN.{length, getD, take, drop, List·getD-append}
 use lib.Dec.{eqb}
 use borrow.Author.Tests.{eqb-true}
 use Rattle.rules.specs.declared.State.{State}
 use Rattle.rules.specs.Views.{input}
 use Rattle.rules.specs.Sampling.{said}
 use Rattle.rules.specs.Steps.{running}
-use Rattle.rules.specs.Runs.{Call, tick, complete, Moment, start, spoken, next, after, Through, here, further, Runs, JobAt, Job, words}
+use Rattle.rules.specs.Runs.{Call, tick, complete, Moment, start, spoken, next, after, Runs, JobAt, Job}
 use Rattle.rules.proofs.Tests.{byTest, cond-by, lt-or}
 use Rattle.rules.proofs.Kept.{plan-count}
 use Rattle.rules.proofs.Sampling.{length-more}
 use Rattle.rules.proofs.Runs.Choice.{runner-in}
-use Rattle.rules.proofs.Runs.Moments.{tick-by, word-by, halted-after}
+use Rattle.rules.proofs.Runs.Moments.{tick-by, word-by, halted-after, after-split}
 use Rattle.rules.proofs.Runs.Invariant.{Planned, Invariant, next-invariant, start-invariant}
 
 -- ---------------------------------------------------------------------------------------------------------------------------
@@ -44,15 +44,11 @@ after-holds (c ∷ cs) m i j h =
     let b = after-holds cs (next m c) i j (a .0) in
     (b .0, b .1 ∙ a .1)
 
-through-holds : {m k : Moment} {cs : List Call} → Through m cs k → (i j : ℕ) → j < length (k .words i) → Holds (after m cs .words i) (k .words i) j
-through-holds {m = m} {cs = cs} here i j h = after-holds cs m i j h
-through-holds (further t) i j h = through-holds t i j h
-
 -- what the rule says of the words at a moment it says of those of the whole run
-pub through-said : {m k : Moment} {cs : List Call} → Through m cs k → (i u : ℕ) → u ≤ length (k .words i) →
-    (u ≤ length (after m cs .words i)) × (said (after m cs .words i) u ≡ said (k .words i) u)
-through-said t i zero h = (omega arith, refl)
-through-said t i (suc j) h = through-holds t i j (omega arith)
+pub later-said : (n : ℕ) (cs : List Call) (m : Moment) (i u : ℕ) → u ≤ length (after m (take n cs) .words i) →
+    (u ≤ length (after m cs .words i)) × (said (after m cs .words i) u ≡ said (after m (take n cs) .words i) u)
+later-said n cs m i zero h = (omega arith, refl)
+later-said n cs m i (suc j) h = rw (after-split n cs m) at (after-holds (drop n cs) (after m (take n cs)) i j (omega arith))
 
 -- ---------------------------------------------------------------------------------------------------------------------------
 -- A job that delivered was started
@@ -71,7 +67,7 @@ module _ (s : State) where
 
   -- the word was there, or its job is one of the run
   abbrev Began : Moment → List Call → ℕ → ℕ → Type 0
-  Began m cs i j = (j < length (m .words i)) ⊎ ((k : Moment) × (x : ℕ → ℕ) × Through m cs k × JobAt s k i j x)
+  Began m cs i j = (j < length (m .words i)) ⊎ ((n : ℕ) × (x : ℕ → ℕ) × JobAt s (after m (take n cs)) i j x)
 
   spoken-began : (m : Moment) (w : ℕ) (cs : List Call) → Invariant s m → m .state .halted ≡ false → (r : ℕ) → Runs (m .state) r → (i j : ℕ) →
       j < length (spoken (m .words) r w i) → Began m cs i j
@@ -79,7 +75,7 @@ module _ (s : State) where
       cond-by (λ ws. j < length ws → Began m cs i j) (eqb i r) (m .words i ++ (w ∷ [])) (m .words i)
       (λ e l. elim (lt-or j (length (m .words i))) [
         | inl q ↦ inl q
-        | inr q ↦ inr (m, input (m .state), here, job (eqb-true _ _ e) (omega (arith, length-more (m .words i) w)))
+        | inr q ↦ inr (0, input (m .state), job (eqb-true _ _ e) (omega (arith, length-more (m .words i) w)))
       ])
       (λ _ l. inl l)
     where
@@ -102,8 +98,9 @@ module _ (s : State) where
     where
       on : Began (next m c) cs i j → Began m (c ∷ cs) i j
       on (inl l) = next-began m c (c ∷ cs) d i j l
-      on (inr b) = inr (b .0, b .1, further (b .2), b .3)
+      on (inr b) = inr (suc (b .0), b .1, b .2)
 
-  pub delivered-started : Planned s → (cs : List Call) (i k : ℕ) → k < length (words s cs i) → (x : ℕ → ℕ) × Job s cs i k x
+  pub delivered-started : Planned s → (cs : List Call) (i k : ℕ) → k < length (after (start s) cs .words i) →
+      (x : ℕ → ℕ) × Job s (after (start s)) cs i k x
   delivered-started pl cs i k h =
-      elim (after-began cs (start s) (start-invariant s pl) i k h) [ inl l ↦ absurd (omega arith) | inr b ↦ (b .1, (b .0, b .2, b .3)) ]
+      elim (after-began cs (start s) (start-invariant s pl) i k h) [ inl l ↦ absurd (omega arith) | inr b ↦ (b .1, (b .0, b .2)) ]
