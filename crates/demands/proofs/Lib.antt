@@ -1,6 +1,7 @@
--- Named: the count of the sampling rule is 01's last job. Demands: demand 3 for every accepted fresh start. Programs: what a program can
--- be given is decided. ShutOut: no wrong program of 01's list meets its statement.
+-- Named: the count of the sampling rule is 01's last job. Held: what the rules give, a program's types hold. Runs: programs that meet their
+-- contracts have the rules' runs. Demands: demand 3 for every accepted fresh start. ShutOut: no wrong program of 01's list meets its statement.
 pub mod Named
+pub mod Held
+pub mod Runs
 pub mod Demands
-pub mod Programs
 pub mod ShutOut

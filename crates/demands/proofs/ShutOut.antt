@@ -3,9 +3,9 @@
 use mathlib.Core.Path.{_≡_, refl, sym, _∙_, ap}
 use mathlib.Core.Bool.{true, false}
 use mathlib.Core.List.{List, [], _∷_, _++_}
-use Prim.Native.Nat.{ℕ}
+use Prim.Native.Nat.{ℕ, _*_, _^_}
 use native.Mathlib.Omega.{arith}
-use lib.ListN.{getD, replicate}
+use lib.ListN.{length, getD, replicate}
 use Rattle.rules.specs.declared.Plan.{Plan}
 use Rattle.rules.specs.declared.Verdict.the-variants as verdict
 use Rattle.rules.specs.declared.State.{State}
@@ -22,14 +22,18 @@ use Rattle.rules.specs.Fresh.{freshState}
 use Rattle.rules.specs.Answers.{Told, told, answerSays, readingSays}
 use Rattle.rules.specs.Runs.{Call, Call.tick, Call.complete, start, after}
 use Rattle.rules.proofs.Plans.{plan-one}
-use Rattle.rules.proofs.Deciding.{first, others}
+use Rattle.rules.proofs.Deciding.{Decision, both, all, lt, first, others}
 use Rattle.rules.proofs.Bench.{task, plain, periodic, undelayed, delayed, accepted, ticks}
 use Rattle.rules.proofs.Cases.{all-cases}
 use Rattle.rules.proofs.Answers.{answerSays-injective}
-use Rattle.rules.proofs.Session.{session}
-use Rattle.demands.specs.Programs.{Bits, Slice, Held}
-use Rattle.demands.proofs.Programs.{sliceOf, heldOf}
-use Rattle.demands.specs.ShutOut.{Planner, MeetsPlan, RefusesAllTables, FixesOrder, Reader, MeetsRead, RefusesAllFiles, Ticker, Completer, MeetsTick, MeetsComplete, NamesNone, Leaves, CopiesAtFirstOnly}
+use Rattle.rules.proofs.Session.{session, sessionTasks, sessionRows, sessionPlan, session-planned}
+use Rattle.demands.specs.Programs.{Bits, Slice, Held, Planner, MeetsPlan, Reader, MeetsRead, Ticker, MeetsTick, Completer, MeetsComplete}
+use Rattle.demands.specs.ShutOut.{RefusesAllTables, FixesOrder, RefusesAllFiles, NamesNone, Leaves, CopiesAtFirstOnly}
+use Rattle.demands.proofs.Held.{fresh-held, tick-held, after-held}
+
+-- whether a program can be lent a list of words of b bits is decided by computation
+abbrev sliceOf : (b : ℕ) (ws : List ℕ) → Decision (Slice b ws)
+sliceOf b ws = both (lt (length ws * b) (2 ^ 66)) (all (length ws) (λ k. lt (getD ws k 0) (2 ^ b)))
 
 -- ---------------------------------------------------------------------------------------------------------------------------
 -- The planner: M2 and M5 have two tasks each, and are accepted with the orders 0, 1 and 1, 0
@@ -106,8 +110,7 @@ names-one : (a : Answer) (i : ℕ) → NamesNone a → answerSays a ≡ told 1 0
 names-one a i n e = n i (answerSays-injective a (answer.Running i) e)
 
 session-held : Held session
-unfolding freshState
-session-held = heldOf session .if-true refl
+session-held = fresh-held sessionTasks sessionRows sessionPlan session-planned
 
 first-tick : answerSays (tickOf session .answer) ≡ told 1 0 0
 unfolding freshState inRange judged delivered dispatched startedAt chosen advanced ticking
@@ -121,16 +124,15 @@ unfolding freshState inRange judged delivered dispatched startedAt chosen advanc
 first-completion = refl
 
 ticked-held : Held ticked
-unfolding freshState inRange judged delivered dispatched startedAt chosen advanced ticking
-ticked-held = heldOf ticked .if-true refl
+ticked-held = tick-held session session-held
 
-pub no-tick-names-none : (f : Ticker) → MeetsTick f → ((s : State) → Held s → NamesNone (f s .answer)) → ⊥
+pub no-tick-names-none : (f : Ticker) → MeetsTick f → ((s : State) → Held s → NamesNone (f .run s .answer)) → ⊥
 no-tick-names-none f meets none =
-    names-one (f session .answer) 0 (none session session-held) (meets session session-held .answer ∙ first-tick)
+    names-one (f .run session .answer) 0 (none session session-held) (meets session session-held .answer ∙ first-tick)
 
-pub no-completion-names-none : (f : Completer) → MeetsComplete f → ((s : State) (w : ℕ) → Held s → Bits 32 w → NamesNone (f s w .answer)) → ⊥
+pub no-completion-names-none : (f : Completer) → MeetsComplete f → ((s : State) (w : ℕ) → Held s → Bits 32 w → NamesNone (f .run s w .answer)) → ⊥
 no-completion-names-none f meets none =
-    names-one (f ticked 11 .answer) 1 (none ticked 11 ticked-held (omega arith)) (meets ticked 11 ticked-held (omega arith) .answer ∙ first-completion)
+    names-one (f .run ticked 11 .answer) 1 (none ticked 11 ticked-held (omega arith)) (meets ticked 11 ticked-held (omega arith) .answer ∙ first-completion)
 
 tick-moves : tickOf session .state .cycle ≡ 1
 unfolding freshState inRange judged delivered dispatched startedAt chosen advanced ticking
@@ -140,7 +142,7 @@ start-stands : session .cycle ≡ 0
 unfolding freshState
 start-stands = refl
 
-pub no-tick-leaves-state : (f : Ticker) → MeetsTick f → ((s : State) → Held s → Leaves s (f s)) → ⊥
+pub no-tick-leaves-state : (f : Ticker) → MeetsTick f → ((s : State) → Held s → Leaves s (f .run s)) → ⊥
 no-tick-leaves-state f meets leaves =
     let e : tickOf session .state ≡ session = sym (meets session session-held .state) ∙ leaves session session-held in
     let z : _≡_ {A = ℕ} 1 0 = sym tick-moves ∙ ap (λ (s : State). s .cycle) e ∙ start-stands in
@@ -154,7 +156,7 @@ ticked-stands : output ticked 0 ≡ 0
 unfolding freshState inRange judged delivered dispatched startedAt chosen advanced ticking
 ticked-stands = refl
 
-pub no-completion-leaves-state : (f : Completer) → MeetsComplete f → ((s : State) (w : ℕ) → Held s → Bits 32 w → Leaves s (f s w)) → ⊥
+pub no-completion-leaves-state : (f : Completer) → MeetsComplete f → ((s : State) (w : ℕ) → Held s → Bits 32 w → Leaves s (f .run s w)) → ⊥
 no-completion-leaves-state f meets leaves =
     let e : completeOf ticked 11 .state ≡ ticked =
     sym (meets ticked 11 ticked-held (omega arith) .state) ∙ leaves ticked 11 ticked-held (omega arith) in
@@ -164,10 +166,25 @@ no-completion-leaves-state f meets leaves =
 -- ---------------------------------------------------------------------------------------------------------------------------
 -- The copies of M10: tick 5 brings the sender's first word, 7, to the buffer, long after the first tick
 
+abbrev tasksM10 : List ℕ
+tasksM10 = task 10 5 0 0 ++ periodic 5
+
+abbrev planM10 : Plan
+planM10 = accepted (0 ∷ 1 ∷ []) (320 ∷ 320 ∷ []) (0 ∷ 0 ∷ []) 10
+
+abbrev M10 : State
+M10 = freshState tasksM10 (delayed 0 1) planM10
+
+M10-held : Held M10
+M10-held =
+    fresh-held tasksM10 (delayed 0 1) planM10
+    (first (others (others (others (others (others (others (others (others (others all-cases))))))))) .0)
+
+abbrev toFive : List Call
+toFive = tick ∷ complete 7 ∷ complete 8 ∷ ticks 4
+
 abbrev beforeFive : State
-beforeFive =
-    after (start (freshState (task 10 5 0 0 ++ periodic 5) (delayed 0 1) (accepted (0 ∷ 1 ∷ []) (320 ∷ 320 ∷ []) (0 ∷ 0 ∷ []) 10)))
-    (tick ∷ complete 7 ∷ complete 8 ∷ ticks 4) .state
+beforeFive = after (start M10) toFive .state
 
 was-ticked : beforeFive .ticked ≡ true
 unfolding freshState inRange judged delivered dispatched startedAt chosen advanced ticking endedAt completing
@@ -182,8 +199,7 @@ unfolding freshState inRange judged delivered dispatched startedAt chosen advanc
 buffer-after = refl
 
 five-held : Held beforeFive
-unfolding freshState inRange judged delivered dispatched startedAt chosen advanced ticking endedAt completing
-five-held = heldOf beforeFive .if-true refl
+five-held = after-held toFive (start M10) M10-held (omega arith, (omega arith, tt))
 
 pub no-copies-at-first-only : (f : Ticker) → MeetsTick f → CopiesAtFirstOnly f → ⊥
 no-copies-at-first-only f meets copies =

@@ -4,19 +4,50 @@ use mathlib.Core.Path.{_≡_}
 use mathlib.Core.Bool.{true, false, cond}
 use mathlib.Core.List.{List}
 use Prim.Native.Nat.{ℕ, _+_, _*_, _≤_, _<_}
-use lib.ListN.{getD, length}
+use lib.ListN.{getD, length, take}
+use lib.Dec.{eqb}
 use Rattle.rules.specs.declared.State.{State}
 use Rattle.rules.specs.declared.Step.{Step}
 use Rattle.rules.specs.declared.Verdict.the-variants as verdict
+use Rattle.rules.specs.declared.Reading.the-variants as reading
+use Rattle.rules.specs.declared.Answer.the-variants as answer
+use Rattle.rules.specs.Sizes.{taskWidth, rowWidth}
+use Rattle.rules.specs.Tables as table
+use Rattle.rules.specs.Order.{IsMultiple}
 use Rattle.rules.specs.Views.{started, period, deadline, sender, receiver, undelayed, phaseOf}
 use Rattle.rules.specs.Range.{inRange}
 use Rattle.rules.specs.Fresh.{FreshIs}
 use Rattle.rules.specs.Runs.{Call, Sent, Run, Runs, JobAt, Job, OrderKept, Numbered, Recorded, Sampled, TwoRuns}
+use Rattle.reader.specs.Read.{ReadIs}
 
 -- "an accepted fresh start": r answers fresh start's call on the two tables, and the planner's verdict on them is that they are accepted
 pub record AcceptedStart (tw cw : List ℕ) (r : Step) : Type 0 where
   pub fresh : FreshIs tw cw r
   pub accepted : fresh .plan .verdict ≡ verdict.Accepted
+
+-- a machine file was read and started: `read`, lent two tables, answers that it read t tasks and c connections, and fresh start, called on so
+-- much of both tables, answers Idle
+pub record FileStart (file : List ℕ) (r : Step) : Type 0 where
+  pub lent-tasks : List ℕ
+  pub lent-rows : List ℕ
+  pub left-tasks : List ℕ
+  pub left-rows : List ℕ
+  pub t : ℕ
+  pub c : ℕ
+  pub read : ReadIs file lent-tasks lent-rows (reading.Read t c) left-tasks left-rows
+  pub fresh : FreshIs (take (t * taskWidth) left-tasks) (take (c * rowWidth) left-rows) r
+  pub idle : r .answer ≡ answer.Idle
+
+-- the plan of a state is that of two tables: all that the demand asks of a plan is the tables' own
+pub record Tabled (tw cw : List ℕ) (s : State) : Type 0 where
+  pub count : s .count ≡ table.count tw
+  pub rows : s .rows ≡ table.rows cw
+  pub periods : (i : ℕ) → i < table.count tw → period s i ≡ table.period tw i
+  pub deadlines : (i : ℕ) → i < table.count tw → deadline s i ≡ table.deadline tw i
+  pub senders : (c : ℕ) → c < table.rows cw → sender s c ≡ table.sender cw c
+  pub receivers : (c : ℕ) → c < table.rows cw → receiver s c ≡ table.receiver cw c
+  pub kinds : (c : ℕ) → c < table.rows cw → undelayed s c ≡ eqb (table.kind cw c) 1
+  pub multiple : IsMultiple tw (s .multiple)
 
 -- "on a delayed connection, .. dispatch plus deadline is at most r; on an undelayed connection, .. dispatched at or before r": the rule
 -- has job j of the sender of row c in view, for a job dispatched at tick r

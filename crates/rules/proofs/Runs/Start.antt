@@ -45,11 +45,11 @@ module _ (tw cw : List ℕ) (p : Plan) (a : Accepts tw cw p) where
 
   -- its columns are those of the tables
   module _ (i : ℕ) (h : i < table.count tw) where
-    period-is : period s i ≡ table.period tw i
+    pub period-is : period s i ≡ table.period tw i
     unfolding freshState
     period-is = column-at (table.period tw) (table.count tw) 0 mostTasks i h (t .lengths .tasks-most)
 
-    deadline-is : deadline s i ≡ table.deadline tw i
+    pub deadline-is : deadline s i ≡ table.deadline tw i
     unfolding freshState
     deadline-is = column-at (table.deadline tw) (table.count tw) 0 mostTasks i h (t .lengths .tasks-most)
 
@@ -58,11 +58,11 @@ module _ (tw cw : List ℕ) (p : Plan) (a : Accepts tw cw p) where
     compute-is = column-at (table.compute tw) (table.count tw) 0 mostTasks i h (t .lengths .tasks-most)
 
   module _ (c : ℕ) (h : c < table.rows cw) where
-    sender-is : sender s c ≡ table.sender cw c
+    pub sender-is : sender s c ≡ table.sender cw c
     unfolding freshState
     sender-is = column-at (table.sender cw) (table.rows cw) 0 mostRows c h (t .lengths .rows-most)
 
-    receiver-is : receiver s c ≡ table.receiver cw c
+    pub receiver-is : receiver s c ≡ table.receiver cw c
     unfolding freshState
     receiver-is = column-at (table.receiver cw) (table.rows cw) 0 mostRows c h (t .lengths .rows-most)
 
@@ -72,7 +72,7 @@ module _ (tw cw : List ℕ) (p : Plan) (a : Accepts tw cw p) where
         eqb-true (table.kind cw c) 1
         (sym (column-at (λ k. eqb (table.kind cw k) 1) (table.rows cw) false mostRows c h (t .lengths .rows-most)) ∙ e)
 
-  multiple-high : p .multiple ≤ mostMultiple
+  pub multiple-high : p .multiple ≤ mostMultiple
   multiple-high =
       ⊎-elim (λ over. absurd (a .sound 8 0 (refl, λ c pos most common. omega (arith, a .multiple-is .least c pos common)))) (λ le. le)
       (lt-or mostMultiple (p .multiple))
