@@ -172,10 +172,10 @@ tasksM10 = task 10 5 0 0 ++ periodic 5
 abbrev planM10 : Plan
 planM10 = accepted (0 ∷ 1 ∷ []) (320 ∷ 320 ∷ []) (0 ∷ 0 ∷ []) 10
 
-abbrev M10 : State
+abbrev pub M10 : State
 M10 = freshState tasksM10 (delayed 0 1) planM10
 
-M10-held : Held M10
+pub M10-held : Held M10
 M10-held =
     fresh-held tasksM10 (delayed 0 1) planM10
     (first (others (others (others (others (others (others (others (others (others all-cases))))))))) .0)

@@ -11,6 +11,8 @@ use Rattle.rules.specs.declared.Step.{Step}
 use Rattle.rules.specs.declared.Answer.{Answer}
 use Rattle.rules.specs.declared.Answer.the-variants as answer
 use Rattle.rules.specs.Tables.{count}
+use Rattle.rules.specs.Views.{setBuffers, setInputs}
+use Rattle.rules.specs.Calls.{tickOf}
 use Rattle.demands.specs.Programs.{Slice, Held, Planner, Reader, Ticker}
 
 -- "a planner .. that refuses all"
@@ -35,7 +37,12 @@ NamesNone a = (i : ℕ) → a ≡ answer.Running i → ⊥
 abbrev pub Leaves : State → Step → Type 0
 Leaves s r = r .state ≡ s
 
--- "one that makes the copies of every tick at the first tick and only names tasks afterwards": a later tick changes no word
+-- "one that makes the copies of every tick at the first tick": a later tick changes no word
 abbrev pub CopiesAtFirstOnly : Ticker → Type 0
 CopiesAtFirstOnly f = (s : State) → Held s → s .ticked ≡ true →
     (f .run s .state .buffers ≡ s .buffers) × (f .run s .state .inputs ≡ s .inputs)
+
+-- "and only names tasks afterwards": its answers are the rules', and so is its state but for the words of the connections
+abbrev pub NamesTasks : Ticker → Type 0
+NamesTasks f = (s : State) → Held s → (f .run s .answer ≡ tickOf s .answer)
+    × (f .run s .state ≡ setInputs (setBuffers (tickOf s .state) (f .run s .state .buffers)) (f .run s .state .inputs))
