@@ -46,10 +46,10 @@ complete-ticked s w h =
 -- Behind its first tick such a program's run is this one
 
 -- the rules' tick, with the words of the connections as they were
-abbrev with-words : State → List ℕ → List ℕ → State
+abbrev pub with-words : State → List ℕ → List ℕ → State
 with-words s b x = setInputs (setBuffers s b) x
 
-abbrev namesOnly : State → Step
+abbrev pub namesOnly : State → Step
 namesOnly s = step (tickOf s .answer) (with-words (tickOf s .state) (s .buffers) (s .inputs))
 
 module _ (f : Ticker) (g : Completer) (completes : MeetsComplete g) (copies : CopiesAtFirstOnly f) (names : NamesTasks f) where

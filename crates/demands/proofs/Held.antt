@@ -72,7 +72,7 @@ module _ (b places : ℕ) (pos : 0 < 2 ^ b) where
 either : (b : Bool) (x y : ℕ) → Bits 32 x → Bits 32 y → Bits 32 (cond b x y)
 either b x y hx hy = cond-by (Bits 32) b x y (λ _. hx) (λ _. hy)
 
-moved-held : (s : State) (ts : List Task) (os ds bs is : List ℕ) (t : ℕ) (k h : Bool) → Held s → length ts ≡ mostTasks →
+pub moved-held : (s : State) (ts : List Task) (os ds bs is : List ℕ) (t : ℕ) (k h : Bool) → Held s → length ts ≡ mostTasks →
     Column 32 mostTasks os → Column 32 mostTasks ds → Column 32 mostRows bs → Column 32 mostRows is → Bits 32 t →
     Held (moved s ts os ds bs is t k h)
 moved-held s ts os ds bs is t k h z lt lo ld lb li c = record {

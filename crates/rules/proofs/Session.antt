@@ -33,7 +33,7 @@ abbrev pub sessionRows : List ℕ
 sessionRows = undelayed 0 1 ++ undelayed 0 2 ++ undelayed 1 2
 
 -- the same as a machine file: each record behind its mark, a TK of eight bytes, a CN of three, and EN
-abbrev sessionFile : List ℕ
+abbrev pub sessionFile : List ℕ
 sessionFile =
     (0x54 ∷ 0x4B ∷ 5 ∷ 0 ∷ 5 ∷ 0 ∷ 1 ∷ 0 ∷ 1 ∷ 0 ∷ [])
     ++ (0x54 ∷ 0x4B ∷ 20 ∷ 0 ∷ 20 ∷ 0 ∷ 3 ∷ 0 ∷ 1 ∷ 0 ∷ [])
