@@ -27,7 +27,7 @@ use Rattle.rules.proofs.Bench.{task, plain, periodic, undelayed, delayed, accep
 use Rattle.rules.proofs.Cases.{all-cases}
 use Rattle.rules.proofs.Answers.{answerSays-injective}
 use Rattle.rules.proofs.Session.{session, sessionTasks, sessionRows, sessionPlan, session-planned}
-use Rattle.demands.specs.Programs.{Bits, Slice, Held, Planner, MeetsPlan, Reader, MeetsRead, Ticker, MeetsTick, Completer, MeetsComplete}
+use Rattle.demands.specs.Programs.{Bits, Slice, LentTables, Held, Planner, MeetsPlan, Reader, MeetsRead, Ticker, MeetsTick, Completer, MeetsComplete}
 use Rattle.demands.specs.ShutOut.{RefusesAllTables, FixesOrder, RefusesAllFiles, NamesNone, Leaves, CopiesAtFirstOnly}
 use Rattle.demands.proofs.Held.{fresh-held, tick-held, after-held}
 
@@ -50,35 +50,36 @@ tasksM5 = plain ++ plain
 abbrev planM5 : Plan
 planM5 = accepted (1 ∷ 0 ∷ []) (640 ∷ 639 ∷ []) (0 ∷ 0 ∷ []) 10
 
-lentM2 : Slice 16 tasksM2 × Slice 16 (delayed 0 1)
+lentM2 : LentTables tasksM2 (delayed 0 1)
 lentM2 = (sliceOf 16 tasksM2 .if-true refl, sliceOf 16 (delayed 0 1) .if-true refl)
 
-lentM5 : Slice 16 tasksM5 × Slice 16 (undelayed 1 0)
+lentM5 : LentTables tasksM5 (undelayed 1 0)
 lentM5 = (sliceOf 16 tasksM5 .if-true refl, sliceOf 16 (undelayed 1 0) .if-true refl)
 
 module _ (f : Planner) (meets : MeetsPlan f) where
   plans-M2 : f tasksM2 (delayed 0 1) ≡ planM2
-  plans-M2 = plan-one tasksM2 (delayed 0 1) _ _ (meets tasksM2 (delayed 0 1) (lentM2 .0) (lentM2 .1)) (first (others all-cases) .0)
+  plans-M2 = plan-one tasksM2 (delayed 0 1) _ _ (meets tasksM2 (delayed 0 1) lentM2) (first (others all-cases) .0)
 
   plans-M5 : f tasksM5 (undelayed 1 0) ≡ planM5
   plans-M5 =
-      plan-one tasksM5 (undelayed 1 0) _ _ (meets tasksM5 (undelayed 1 0) (lentM5 .0) (lentM5 .1))
+      plan-one tasksM5 (undelayed 1 0) _ _ (meets tasksM5 (undelayed 1 0) lentM5)
       (first (others (others (others (others all-cases)))) .0)
 
   pub no-planner-refuses-all : RefusesAllTables f → ⊥
   no-planner-refuses-all refuses =
-      let r = refuses tasksM2 (delayed 0 1) (lentM2 .0) (lentM2 .1) in
+      let r = refuses tasksM2 (delayed 0 1) lentM2 in
       let v : verdict.Accepted ≡ verdict.Refused (r .0) (r .1) = ap (λ (p : Plan). p .verdict) (sym plans-M2) ∙ r .2 in
       let z : _≡_ {A = ℕ} 0 1 = cc in
       omega arith
 
   pub no-planner-fixes-order : FixesOrder f → ⊥
   no-planner-fixes-order (order, fixes) =
-      let a : planM2 .order ≡ order 2 =
-      ap (λ (p : Plan). p .order) (sym plans-M2) ∙ fixes tasksM2 (delayed 0 1) (lentM2 .0) (lentM2 .1) (ap (λ (p : Plan). p .verdict) plans-M2) in
-      let b : planM5 .order ≡ order 2 =
-      ap (λ (p : Plan). p .order) (sym plans-M5) ∙ fixes tasksM5 (undelayed 1 0) (lentM5 .0) (lentM5 .1) (ap (λ (p : Plan). p .verdict) plans-M5) in
-      let z : _≡_ {A = ℕ} 0 1 = ap (λ (l : List ℕ). getD l 0 0) (a ∙ sym b) in
+      let a : planM2 .order ≡ planM5 .order =
+      ap (λ (p : Plan). p .order) (sym plans-M2)
+      ∙ fixes tasksM2 (delayed 0 1) lentM2 (ap (λ (p : Plan). p .verdict) plans-M2)
+      ∙ sym (fixes tasksM5 (undelayed 1 0) lentM5 (ap (λ (p : Plan). p .verdict) plans-M5))
+      ∙ ap (λ (p : Plan). p .order) plans-M5 in
+      let z : _≡_ {A = ℕ} 0 1 = ap (λ (l : List ℕ). getD l 0 0) a in
       omega arith
 
 -- ---------------------------------------------------------------------------------------------------------------------------
@@ -96,10 +97,9 @@ no-reader-refuses-all f meets refuses =
     let ts : List ℕ = replicate mostTaskWords 0 in
     let cs : List ℕ = replicate mostRowWords 0 in
     let lent : Slice 8 endAlone = sliceOf 8 endAlone .if-true refl in
-    let lent-tasks : Slice 16 ts = sliceOf 16 (replicate mostTaskWords 0) .if-true refl in
-    let lent-rows : Slice 16 cs = sliceOf 16 (replicate mostRowWords 0) .if-true refl in
-    let r = refuses endAlone ts cs lent lent-tasks lent-rows in
-    let e = meets endAlone ts cs lent lent-tasks lent-rows .told ∙ ap readingSays end-alone-read in
+    let tables : LentTables ts cs = (sliceOf 16 (replicate mostTaskWords 0) .if-true refl, sliceOf 16 (replicate mostRowWords 0) .if-true refl) in
+    let r = refuses endAlone ts cs lent tables in
+    let e = meets endAlone ts cs lent tables .told ∙ ap readingSays end-alone-read in
     let z : _≡_ {A = ℕ} 0 5 = ap (λ (t : Told). t .kind) (sym (ap readingSays (r .2)) ∙ e) in
     omega arith
 

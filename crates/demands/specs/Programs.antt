@@ -28,6 +28,10 @@ Words b ws = (k : ℕ) → k < length ws → Bits b (getD ws k 0)
 abbrev pub Slice : ℕ → List ℕ → Type 0
 Slice b ws = (length ws * b < 2 ^ 66) × Words b ws
 
+-- "a task table of 16-bit words", and the connection table beside it
+abbrev pub LentTables : List ℕ → List ℕ → Type 0
+LentTables tw cw = Slice 16 tw × Slice 16 cw
+
 -- `[u16; 32]`: so many places of so many bits
 abbrev pub Column : ℕ → ℕ → List ℕ → Type 0
 Column b places ws = (length ws ≡ places) × Words b ws
@@ -61,7 +65,7 @@ abbrev pub Planner : Type 0
 Planner = List ℕ → List ℕ → Plan
 
 abbrev pub MeetsPlan : Planner → Type 0
-MeetsPlan f = (tw cw : List ℕ) → Slice 16 tw → Slice 16 cw → PlanIs tw cw (f tw cw)
+MeetsPlan f = (tw cw : List ℕ) → LentTables tw cw → PlanIs tw cw (f tw cw)
 
 -- `reader::read`, which leaves an answer and the two tables
 pub record Left : Type 0 where
@@ -73,7 +77,7 @@ abbrev pub Reader : Type 0
 Reader = List ℕ → List ℕ → List ℕ → Left
 
 abbrev pub MeetsRead : Reader → Type 0
-MeetsRead f = (file ts cs : List ℕ) → Slice 8 file → Slice 16 ts → Slice 16 cs →
+MeetsRead f = (file ts cs : List ℕ) → Slice 8 file → LentTables ts cs →
     let r = f file ts cs in ReadIs file ts cs (r .reading) (r .tasks) (r .connections)
 
 -- `executive::tick` and `executive::complete`: what they give can be given again

@@ -13,20 +13,19 @@ use Rattle.rules.specs.declared.Answer.the-variants as answer
 use Rattle.rules.specs.Tables.{count}
 use Rattle.rules.specs.Views.{setBuffers, setInputs}
 use Rattle.rules.specs.Calls.{tickOf}
-use Rattle.demands.specs.Programs.{Slice, Held, Planner, Reader, Ticker}
+use Rattle.demands.specs.Programs.{Slice, LentTables, Held, Planner, Reader, Ticker}
 
 -- "a planner .. that refuses all"
 abbrev pub RefusesAllTables : Planner → Type 0
-RefusesAllTables f = (tw cw : List ℕ) → Slice 16 tw → Slice 16 cw → (k : ℕ) × (p : ℕ) × (f tw cw .verdict ≡ verdict.Refused k p)
+RefusesAllTables f = (tw cw : List ℕ) → LentTables tw cw → (k : ℕ) × (p : ℕ) × (f tw cw .verdict ≡ verdict.Refused k p)
 
 -- "or one fixed order for every table": for every table of so many tasks, as table position is
 abbrev pub FixesOrder : Planner → Type 0
-FixesOrder f = (order : ℕ → List ℕ) ×
-    ((tw cw : List ℕ) → Slice 16 tw → Slice 16 cw → f tw cw .verdict ≡ verdict.Accepted → f tw cw .order ≡ order (count tw))
+FixesOrder f = (order : ℕ → List ℕ) × ((tw cw : List ℕ) → LentTables tw cw → f tw cw .verdict ≡ verdict.Accepted → f tw cw .order ≡ order (count tw))
 
 -- "a .. reader that refuses all"
 abbrev pub RefusesAllFiles : Reader → Type 0
-RefusesAllFiles f = (file ts cs : List ℕ) → Slice 8 file → Slice 16 ts → Slice 16 cs →
+RefusesAllFiles f = (file ts cs : List ℕ) → Slice 8 file → LentTables ts cs →
     (k : ℕ) × (p : ℕ) × (f file ts cs .reading ≡ reading.Refused k p)
 
 -- "an executive that answers Idle or Missed always": it never names a task that runs, though it may refuse where it must
