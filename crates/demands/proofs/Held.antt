@@ -1,6 +1,6 @@
 -- What the rules give, a program's types hold: a fresh start that is accepted, and behind it each tick and each completion. Words are
 -- copied or are the caller's, recorded cycles are the cycle, and the cycle stays below the common multiple; no column changes its length.
-use mathlib.Core.Path.{_≡_, refl, sym, _∙_, ap}
+use mathlib.Core.Path.{_≡_, refl, _∙_}
 use mathlib.Core.Bool.{Bool, true, false, not, cond, _&&_}
 use mathlib.Core.Logic.{⊎-elim}
 use mathlib.Core.List.{List, [], _∷_}
@@ -12,18 +12,16 @@ use lib.Dec.{eqb, ltb}
 use Rattle.rules.specs.declared.Task.{Task}
 use Rattle.rules.specs.declared.State.{State}
 use Rattle.rules.specs.declared.Step.{Step}
-use Rattle.rules.specs.declared.Answer.the-variants as answer
 use Rattle.rules.specs.declared.Plan.{Plan}
 use Rattle.rules.specs.Sizes.{mostTasks, mostRows, longestPeriod}
 use Rattle.rules.specs.Counting.{mapBelow, column}
 use Rattle.rules.specs.Tables as table
 use Rattle.rules.specs.Plan.{Accepts}
 use Rattle.rules.specs.Fresh.{freshState}
-use Rattle.rules.specs.Views.{undelayed, sender, receiver, dispatch, output, buffer, phaseOf, moved, setHalted}
+use Rattle.rules.specs.Views.{undelayed, sender, receiver, dispatch, output, buffer, moved, setHalted}
 use Rattle.rules.specs.Range.{inRange}
-use Rattle.rules.specs.Refusals.{nothingRuns}
-use Rattle.rules.specs.Steps.{step, falls, delivers, delivered, released, samples, wakes, records, dispatched, missing, someRuns, running, takes, startedAt, chosen, advanced, ticking, posts, endedAt, completing}
-use Rattle.rules.specs.Calls.{judged, tickOf, completeOf}
+use Rattle.rules.specs.Steps.{falls, delivers, delivered, released, samples, wakes, records, dispatched, missing, someRuns, running, takes, startedAt, chosen, advanced, ticking, posts, endedAt, completing}
+use Rattle.rules.specs.Calls.{tickOf, completeOf}
 use Rattle.rules.specs.Runs.{Call, Call.tick, Call.complete, Sent, Moment, next, after}
 use Rattle.rules.proofs.Tests.{cond-by, lt-or, eq-or}
 use Rattle.rules.proofs.Counting.{mapBelow-length, mapBelow-keeps, column-at, column-past, column-length, replicate-at}

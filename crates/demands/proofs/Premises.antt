@@ -1,9 +1,7 @@
 -- The premises of the theorems can be met: the rules' own tick and completion are programs that meet the contracts, the session's machine
--- file gives a start, and there is a tick that makes all copies at the first tick and only names tasks afterwards.
+-- file gives a start, and there is a tick that makes all copies at the first tick and only names tasks afterwards, which breaks the demand.
 use mathlib.Core.Path.{_≡_, refl}
 use mathlib.Core.Bool.{Bool, true, false}
-use mathlib.Core.List.{List}
-use Prim.Native.Nat.{ℕ}
 use lib.ListN.{replicate}
 use lib.Seq.{sets}
 use Rattle.rules.specs.declared.State.{State}
@@ -14,14 +12,16 @@ use Rattle.rules.specs.File.{records, onward, itemAt, marked, taskRow, connecti
 use Rattle.rules.specs.Fresh.{startOf}
 use Rattle.rules.specs.Steps.{step}
 use Rattle.rules.specs.Calls.{tickOf, completeOf}
+use Rattle.rules.specs.Runs.{start, afterBy}
 use Rattle.rules.proofs.Tests.{false-true}
 use Rattle.rules.proofs.Answers.{step-refl}
 use Rattle.rules.proofs.Session.{session, sessionTasks, sessionRows, sessionPlan, session-planned, sessionFile}
-use Rattle.demands.specs.Demands.{FileStart}
+use Rattle.demands.specs.Demands.{FileStart, ReadsAsNamed}
 use Rattle.demands.specs.Programs.{Held, Ticker, MeetsTick, Completer, MeetsComplete}
 use Rattle.demands.specs.ShutOut.{CopiesAtFirstOnly, NamesTasks}
 use Rattle.demands.proofs.Held.{moved-held, tick-held, complete-held}
-use Rattle.demands.proofs.CopiesAtFirst.{with-words, namesOnly}
+use Rattle.demands.proofs.CopiesAtFirst.{with-words, namesOnly, copies-at-first-break-demand}
+use Rattle.demands.proofs.ShutOut.{M10}
 
 -- ---------------------------------------------------------------------------------------------------------------------------
 -- The rules' own tick and completion
@@ -85,3 +85,6 @@ first-only-copies s h k = only-copies (s .ticked) s k
 
 pub first-only-names : NamesTasks firstOnly
 first-only-names s h = only-names (s .ticked) s
+
+pub first-only-breaks-demand : ReadsAsNamed M10 (afterBy (firstOnly .run) completeOf (start M10)) → ⊥
+first-only-breaks-demand = copies-at-first-break-demand firstOnly ruledComplete ruled-complete-meets first-only-copies first-only-names

@@ -1,15 +1,12 @@
 -- A tick and a completion that meet their contracts have the rules' runs: each step is the one of the rules, and the state that it gives can
 -- be given again. So what is demanded of the rules' runs holds of theirs.
 use mathlib.Core.Path.{_≡_, refl, sym, _∙_, ap, subst}
-use mathlib.Core.Bool.{true, false}
 use mathlib.Core.List.{List, [], _∷_}
-use Prim.Native.Nat.{ℕ, _<_}
-use lib.ListN.{length, getD, take}
+use Prim.Native.Nat.{ℕ}
+use lib.ListN.{take}
 use Rattle.rules.specs.declared.State.{State}
 use Rattle.rules.specs.declared.Step.{Step}
-use Rattle.rules.specs.Views.{idle, started, period, sender, receiver, undelayed, phaseOf}
-use Rattle.rules.specs.Range.{inRange}
-use Rattle.rules.specs.Runs.{Call, Call.tick, Call.complete, Sent, Moment, start, after-tick, after-word, nextBy, afterBy, after, Run, Runs, JobAt, Job, Consistent}
+use Rattle.rules.specs.Runs.{Call, Call.tick, Call.complete, Sent, Moment, after-tick, after-word, afterBy, after, Run, JobAt, Job, Consistent}
 use Rattle.rules.proofs.Answers.{step-is}
 use Rattle.rules.proofs.Runs.Moments.{sent-take}
 use Rattle.demands.specs.Demands.{Demand}

@@ -1,7 +1,7 @@
 -- No function of a kind that 01 names as wrong meets the statement: each statement admits one answer only, and a case of the bench or
 -- the session, which a program can be given, has an answer that a function of that kind does not give.
 use mathlib.Core.Path.{_≡_, refl, sym, _∙_, ap}
-use mathlib.Core.Bool.{true, false}
+use mathlib.Core.Bool.{true}
 use mathlib.Core.List.{List, [], _∷_, _++_}
 use Prim.Native.Nat.{ℕ, _*_, _^_}
 use native.Mathlib.Omega.{arith}

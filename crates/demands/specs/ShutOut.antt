@@ -1,7 +1,7 @@
 -- 01, "What the proofs have to settle": "These must be shut out". Each kind of wrong program is a property of a program, at what a program
 -- can be given; what a program's contract promises is `Meets..` of Programs.
 use mathlib.Core.Path.{_≡_}
-use mathlib.Core.Bool.{true, false}
+use mathlib.Core.Bool.{true}
 use mathlib.Core.List.{List}
 use Prim.Native.Nat.{ℕ}
 use Rattle.rules.specs.declared.Verdict.the-variants as verdict

@@ -107,7 +107,7 @@ abbrev pub Numbered : State → Run → Type 0
 Numbered s run = (cs : List Call) → Sent cs → (i k : ℕ) (x : ℕ → ℕ) → JobAt s (run cs) i k x →
     (k * period s i < run cs .ticks) × (run cs .ticks ≤ k * period s i + period s i)
 
--- and its recorded dispatch cycle is that tick: cycles count ticks up to the common multiple
+-- and its recorded dispatch cycle is that tick's: k periods by the common multiple
 abbrev pub Recorded : State → Run → Type 0
 Recorded s run = (cs : List Call) → Sent cs → (i k : ℕ) (x : ℕ → ℕ) → JobAt s (run cs) i k x →
     dispatch (run cs .state) i ≡ (k * period s i) % s .multiple
