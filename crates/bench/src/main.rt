@@ -11,12 +11,16 @@ fn mixed(sum: u32, x: u32) -> u32 {
 }
 
 fn code_of(a: Answer) -> u32 {
-    match a {
-        Answer::Running(i) => 100 + ((i % 256) as u32),
-        Answer::Idle => 200,
-        Answer::Missed(i) => 300 + ((i % 256) as u32),
-        Answer::Refused(n, _) => 400 + ((n % 256) as u32),
-    }
+    let Answer::Running(i) = a else {
+        let Answer::Missed(j) = a else {
+            let Answer::Refused(n, _) = a else {
+                return 200; // Idle
+            };
+            return 400 + ((n % 256) as u32);
+        };
+        return 300 + ((j % 256) as u32);
+    };
+    100 + ((i % 256) as u32)
 }
 
 fn is_running(a: Answer) -> bool {
@@ -107,10 +111,10 @@ fn run_plans(tasks: &mut [u16], connections: &[u16], times: u32) -> u32 {
 }
 
 fn read_of(r: Reading) -> u32 {
-    match r {
-        Reading::Read(t, c) => ((t % 1000) as u32) + ((c % 1000) as u32),
-        Reading::Refused(_, _) => 0,
-    }
+    let Reading::Read(t, c) = r else {
+        return 0;
+    };
+    ((t % 1000) as u32) + ((c % 1000) as u32)
 }
 
 fn run_reads(file: &mut [u8], times: u32) -> u32 {

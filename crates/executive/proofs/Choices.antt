@@ -7,6 +7,7 @@ use Prim.Native.Nat.{ℕ, _<_}
 use native.Mathlib.Omega.{arith}
 use lib.ListN.{set}
 use borrow.Author.Tests.{ltb-true}
+use Rattle.rules.specs.Answers.{answerSays}
 use Rattle.rules.specs.Counting.{mapBelow}
 use Rattle.rules.specs.Views.{waiting, taskIn, phaseOf, setTasks, setInputs}
 use Rattle.rules.specs.Steps.{step, someRuns, running, startedAt, chosen}
@@ -15,11 +16,12 @@ use Rattle.rules.specs.declared.Task.{Task}
 use Rattle.rules.specs.declared.State.{State}
 use Rattle.rules.specs.declared.Answer.{Answer}
 use Rattle.rules.specs.declared.Answer.the-variants as answer
+use Rattle.rules.proofs.Answers.{answerSays-injective}
 use Rattle.rules.proofs.Tests.{byTest, cond-true, cond-false, and-left}
 use Rattle.rules.proofs.Steps.{starts, chosen-is}
 use Rattle.executive.specs.Marks.{Below}
 use Rattle.executive.specs.declared.choice.Choice.{Choice}
-use Rattle.executive.specs.Columns.{phaseIn, placeIn, someIn, runningIn, Chooses, takesIn}
+use Rattle.executive.specs.Columns.{phaseIn, placeIn, someIn, runningIn, Chooses, choiceSays, takesIn}
 
 -- the state with these tasks and inputs
 abbrev pub after : State → List Task → List ℕ → State
@@ -59,6 +61,6 @@ module _ (s : State) (c : Choice) (h : Chooses (s .tasks) (s .order) (s .count) 
       (λ w. taken-is tasks inputs (w .2) (w .1) (waiting-some (s .tasks) (s .order) (s .count) c h (w .0)) ∙ sym (cond-true (starts s) _ _ (sym (h .waits-is) ∙ w .0)))
       (λ w. rw (w .2, w .1) (sym (cond-false (starts s) _ _ (sym (h .waits-is) ∙ w .0)))) came
 
-  pub chosen-by : (tasks : List Task) (inputs : List ℕ) (a : Answer) → a ≡ cond (c .some) (answer.Running (c .task)) answer.Idle →
+  pub chosen-by : (tasks : List Task) (inputs : List ℕ) (a : Answer) → answerSays a ≡ choiceSays c →
       Came s c tasks inputs → step a (after s tasks inputs) ≡ chosen s
-  chosen-by tasks inputs a e came = rw (e ∙ answer-is, state-is tasks inputs came) (sym (chosen-is s))
+  chosen-by tasks inputs a e came = rw (answerSays-injective a _ e ∙ answer-is, state-is tasks inputs came) (sym (chosen-is s))

@@ -9,6 +9,8 @@ use lib.Dec.{eqb, ltb}
 use Rattle.rules.specs.Counting.{firstOf, mapBelow}
 use Rattle.rules.specs.Sizes.{longestPeriod}
 use Rattle.rules.specs.Views.{idle, waiting, taskIn}
+use Rattle.rules.specs.Answers.{Told, answerSays}
+use Rattle.rules.specs.declared.Answer.the-variants as answer
 use Rattle.rules.specs.declared.Phase.{Phase}
 use Rattle.rules.specs.declared.Phase.the-variants as phase
 use Rattle.rules.specs.declared.Task.{Task}
@@ -76,6 +78,10 @@ pub record Chooses (tasks : List Task) (order : List ℕ) (n : ℕ) (r : Choice)
   pub some-is : r .some ≡ someIn tasks order n
   pub task-is : r .some ≡ true → r .task ≡ runningIn tasks order n
   pub waits-is : r .waits ≡ someIn tasks order n && waiting (phaseIn tasks (runningIn tasks order n))
+
+-- what is answered: Running with the task that runs, Idle where none does
+abbrev pub choiceSays : Choice → Told
+choiceSays c = answerSays (cond (c .some) (answer.Running (c .task)) answer.Idle)
 
 abbrev pub takesIn : List ℕ → List Bool → List ℕ → ℕ → ℕ → ℕ → ℕ
 takesIn receivers undelayed buffers i c x = cond (getD undelayed c false && eqb (getD receivers c 0) i) (getD buffers c 0) x
