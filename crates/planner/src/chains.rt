@@ -78,7 +78,7 @@ fn chains_from(connections: &[u16], n: u8, i: usize) -> [u8; 32]
 }
 
 // The square of the chains between n tasks.
-pub fn square(connections: &[u16], n: u8) -> [[u8; 32]; 32]
+pub(crate) fn square(connections: &[u16], n: u8) -> [[u8; 32]; 32]
     requires { ⌜ Named (now connections) × (n ≤ mostTasks) ⌝ }
     ensures { λ r. ⌜ Square (Link (now (connections .entry))) n r ⌝ }
 {
@@ -93,7 +93,7 @@ pub fn square(connections: &[u16], n: u8) -> [[u8; 32]; 32]
 }
 
 // The first of n tasks to which a chain returns; n where there is none.
-pub fn first_circle(chains: &[[u8; 32]; 32], n: usize) -> usize
+pub(crate) fn first_circle(chains: &[[u8; 32]; 32], n: usize) -> usize
     requires { ⌜ n ≤ mostTasks ⌝ }
     ensures { λ r. ⌜ r ≡ firstOf (circles (now (chains .entry))) n ⌝ }
 {

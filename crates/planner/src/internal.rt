@@ -5,14 +5,14 @@ ghost use Rattle.rules.specs.Tables.{count};
 ghost use Rattle.planner.specs.Internal.{lower, Workable, NumbersAre, ColumnsAre};
 use crate::places::task_at;
 
-pub struct Numbers {
-    pub deadline: u32,
-    pub criticality: u8,
+struct Numbers {
+    deadline: u32,
+    criticality: u8,
 }
 
-pub struct Columns {
-    pub deadlines: [u32; 32],
-    pub criticalities: [u8; 32],
+pub(crate) struct Columns {
+    pub(crate) deadlines: [u32; 32],
+    pub(crate) criticalities: [u8; 32],
 }
 
 // x where a chain leads to it and it is below best; else best.
@@ -48,7 +48,7 @@ fn numbers_of(tasks: &[u16], chains: &[[u8; 32]; 32], i: usize) -> Numbers
 }
 
 // Both numbers of each task.
-pub fn columns_of(tasks: &[u16], chains: &[[u8; 32]; 32]) -> Columns
+pub(crate) fn columns_of(tasks: &[u16], chains: &[[u8; 32]; 32]) -> Columns
     requires { ⌜ Workable (now tasks) (now chains) ⌝ }
     ensures { λ r. ⌜ ColumnsAre (now (tasks .entry)) (now (chains .entry)) r ⌝ }
 {

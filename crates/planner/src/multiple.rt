@@ -32,7 +32,7 @@ fn multiple_of_two(a: u32, b: u32) -> u32
 }
 
 // The least common multiple of all periods; 0 where it is over 720,720.
-pub fn multiple_of(tasks: &[u16]) -> u32
+pub(crate) fn multiple_of(tasks: &[u16]) -> u32
     requires { ⌜ Sized (now tasks) ⌝ }
     ensures { λ r. ⌜ Multiple (now (tasks .entry)) r ⌝ }
 {

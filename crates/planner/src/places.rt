@@ -6,22 +6,22 @@ ghost use Rattle.rules.specs.Tables.{count, rows};
 ghost use Rattle.planner.specs.Places.{valuesOf, rowOf, fit, joins, uneven, raised, stands, Readable};
 
 // The five words of a task, and the three of a connection row.
-pub struct Values {
-    pub period: u16,
-    pub deadline: u16,
-    pub compute: u16,
-    pub criticality: u16,
-    pub flag: u16,
+pub(crate) struct Values {
+    pub(crate) period: u16,
+    pub(crate) deadline: u16,
+    pub(crate) compute: u16,
+    pub(crate) criticality: u16,
+    pub(crate) flag: u16,
 }
 
-pub struct Row {
-    pub sender: u16,
-    pub receiver: u16,
-    pub kind: u16,
+pub(crate) struct Row {
+    pub(crate) sender: u16,
+    pub(crate) receiver: u16,
+    pub(crate) kind: u16,
 }
 
 // Task i of the table.
-pub fn task_at(tasks: &[u16], i: usize) -> Values
+pub(crate) fn task_at(tasks: &[u16], i: usize) -> Values
     requires { ⌜ i < count (now tasks) ⌝ }
     ensures { λ r. ⌜ r ≡ valuesOf (now (tasks .entry)) i ⌝ }
 {
@@ -35,7 +35,7 @@ pub fn task_at(tasks: &[u16], i: usize) -> Values
 }
 
 // Row c of the table.
-pub fn row_at(connections: &[u16], c: usize) -> Row
+pub(crate) fn row_at(connections: &[u16], c: usize) -> Row
     requires { ⌜ c < rows (now connections) ⌝ }
     ensures { λ r. ⌜ r ≡ rowOf (now (connections .entry)) c ⌝ }
 {
@@ -103,7 +103,7 @@ fn stands(tasks: &[u16], connections: &[u16], number: usize, p: usize) -> bool
 }
 
 // The first place below n where it stands; n where there is none.
-pub fn first_place(tasks: &[u16], connections: &[u16], number: usize, n: usize) -> usize
+pub(crate) fn first_place(tasks: &[u16], connections: &[u16], number: usize, n: usize) -> usize
     requires { ⌜ ((p : ℕ) → p < n → Readable (now tasks) (now connections) number p) ⌝ }
     ensures { λ r. ⌜ r ≡ firstOf (stands (now (tasks .entry)) (now (connections .entry)) number) n ⌝ }
 {

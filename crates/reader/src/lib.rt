@@ -9,23 +9,23 @@ ghost use Rattle.reader.specs.Read.{stored, PassIs, ReadIs};
 use rules::Reading;
 
 // The five words of a task.
-pub struct TaskRow {
-    pub period: u16,
-    pub deadline: u16,
-    pub compute: u16,
-    pub criticality: u16,
-    pub flag: u16,
+struct TaskRow {
+    period: u16,
+    deadline: u16,
+    compute: u16,
+    criticality: u16,
+    flag: u16,
 }
 
 // The three words of a connection.
-pub struct ConnectionRow {
-    pub sender: u16,
-    pub receiver: u16,
-    pub kind: u16,
+struct ConnectionRow {
+    sender: u16,
+    receiver: u16,
+    kind: u16,
 }
 
 // What stands at one place of the file: a record, its end, or a refusal's number and place.
-pub enum Item {
+enum Item {
     Task(TaskRow),
     Connection(ConnectionRow),
     End,
