@@ -10,6 +10,7 @@ use lib.ListN.{length, drop, set}
 use lib.Seq.{sets}
 use Rattle.rules.specs.Sizes.{mostTasks, mostRows}
 use Rattle.rules.specs.File.{Item, itemAt, contentsOf, readingOf, taskWords, connectionWords}
+use Rattle.rules.specs.Answers.{readingSays}
 use Rattle.rules.specs.declared.Reading.{Reading}
 use Rattle.rules.specs.declared.Reading.the-variants as reading
 use Rattle.rules.proofs.Parts.{sets-then}
@@ -82,7 +83,7 @@ module _ {store : Bool} {file tasks₀ connections₀ tasks connections : List �
   pass-end h =
       let l = left-end file at t c (g .few-tasks) (g .few-rows) h in
       record {
-        answer = rw l at (g .answer);
+        told = ap readingSays (rw l at (g .answer));
         task-table = sym (stored-none store tasks (t * 5)) ∙ (rw l at (g .task-table));
         row-table = sym (stored-none store connections (c * 3)) ∙ (rw l at (g .row-table));
       }
@@ -92,7 +93,7 @@ module _ {store : Bool} {file tasks₀ connections₀ tasks connections : List �
   pass-refusal n p h =
       let l = left-refusal file at t c (g .few-tasks) (g .few-rows) n p h in
       record {
-        answer = rw l at (g .answer);
+        told = ap readingSays (rw l at (g .answer));
         task-table = sym (stored-none store tasks (t * 5)) ∙ (rw l at (g .task-table));
         row-table = sym (stored-none store connections (c * 3)) ∙ (rw l at (g .row-table));
       }

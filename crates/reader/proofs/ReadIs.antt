@@ -48,16 +48,19 @@ module _ (file tasks connections : List ℕ) (room : short tasks connections ≡
   unfolding readOf
   asked-contents = rw room
 
+  asked-pass : (r : Reading) → readingSays r ≡ readingSays (readingOf 0 0 (contentsOf file)) → asked file tasks connections ≡ r
+  asked-pass r told = asked-contents ∙ sym (readingSays-injective r (readingOf 0 0 (contentsOf file)) told)
+
   -- a pass that stores nothing leaves both tables as they were
   pub read-refused : (n p : ℕ) (tasks' connections' : List ℕ) → PassIs false file tasks connections (reading.Refused n p) tasks' connections' → ReadIs file tasks connections (reading.Refused n p) tasks' connections'
-  read-refused n p tasks' connections' h = rw (h .task-table, h .row-table) (read-refusal file tasks connections n p (asked-contents ∙ sym (h .answer)))
+  read-refused n p tasks' connections' h = rw (h .task-table, h .row-table) (read-refusal file tasks connections n p (asked-pass (reading.Refused n p) (h .told)))
 
   pub read-accepted : (t c : ℕ) (r : Reading) (tasks' connections' tasks'' connections'' : List ℕ) → PassIs false file tasks connections (reading.Read t c) tasks' connections' → PassIs true file tasks' connections' r tasks'' connections'' → ReadIs file tasks connections r tasks'' connections''
   unfolding filled
   read-accepted t c r tasks' connections' tasks'' connections'' h k =
-      let e = asked-contents ∙ sym (h .answer) in
+      let e = asked-pass (reading.Read t c) (h .told) in
       record {
-        told = ap readingSays (k .answer ∙ sym asked-contents);
+        told = k .told ∙ ap readingSays (sym asked-contents);
         task-table = rw e (k .task-table ∙ ap (λ (l : List ℕ). stored true l 0 (taskWords (contentsOf file))) (h .task-table));
         row-table = rw e (k .row-table ∙ ap (λ (l : List ℕ). stored true l 0 (connectionWords (contentsOf file))) (h .row-table));
       }

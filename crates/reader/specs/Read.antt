@@ -26,6 +26,6 @@ stored false table at words = table
 
 -- one pass over the records of a file, with or without storing: the answer, and both tables before and after
 pub record PassIs (store : Bool) (file tasks connections : List ℕ) (r : Reading) (tasks' connections' : List ℕ) : Type 0 where
-  pub answer : r ≡ readingOf 0 0 (contentsOf file)
+  pub told : readingSays r ≡ readingSays (readingOf 0 0 (contentsOf file))
   pub task-table : tasks' ≡ stored store tasks 0 (taskWords (contentsOf file))
   pub row-table : connections' ≡ stored store connections 0 (connectionWords (contentsOf file))
