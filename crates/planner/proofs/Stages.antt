@@ -17,6 +17,8 @@ use Rattle.rules.specs.Refusals.{Bad, Refusal, Sound}
 use Rattle.rules.specs.Plan.{ZeroFrom, Accepts, Judges, PlanIs}
 use Rattle.rules.specs.declared.Plan.{Plan}
 use Rattle.rules.specs.declared.Verdict.{Verdict}
+use Rattle.rules.specs.declared.Verdict.the-variants as verdict
+use Rattle.rules.proofs.Answers.{verdictSays-injective}
 use Rattle.rules.proofs.Deciding.{Decision, lt, equal, fails, either, restated}
 use Rattle.rules.proofs.Counting.{replicate-at, column-at, column-past, column-length}
 use Rattle.rules.proofs.Chains.{Upto, upto-reached, upto-reaches}
@@ -170,4 +172,4 @@ module _ (tw cw : List ℕ) where
       }
 
       pub plan-accepted : PlanIs tw cw r
-      plan-accepted = subst (λ (v : Verdict). Judges tw cw v r) (sym (w .accepted)) accepts
+      plan-accepted = subst (λ (v : Verdict). Judges tw cw v r) (sym (verdictSays-injective (r .verdict) verdict.Accepted (w .accepted))) accepts

@@ -6,6 +6,7 @@ use lib.ListN.{replicate}
 use Rattle.rules.specs.Sizes.{mostTasks}
 use Rattle.rules.specs.Tables.{count}
 use Rattle.rules.specs.Counting.{column}
+use Rattle.rules.specs.Answers.{verdictSays}
 use Rattle.rules.specs.declared.Plan.{Plan}
 use Rattle.rules.specs.declared.Verdict.the-variants as verdict
 use Rattle.planner.specs.Internal.{deadlineOver, criticalityOver}
@@ -23,7 +24,7 @@ refusedPlan number place = record {
 
 -- the plan that is worked out from the square of chains and the common multiple
 pub record WorkedOut (tw : List ℕ) (sq : List (List ℕ)) (multiple : ℕ) (r : Plan) : Type 0 where
-  pub accepted : r .verdict ≡ verdict.Accepted
+  pub accepted : verdictSays (r .verdict) ≡ verdictSays verdict.Accepted
   pub deadlines-are : r .deadlines ≡ column (λ i. deadlineOver tw sq i (count tw)) (count tw) 0 mostTasks
   pub criticalities-are : r .criticalities ≡ column (λ i. criticalityOver tw sq i (count tw)) (count tw) 0 mostTasks
   pub ordered : Ordered (r .deadlines) (r .criticalities) (count tw) (r .order)
