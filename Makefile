@@ -13,6 +13,7 @@ define CHECKS
 rt fmt --check
 rt ci
 tests/rules-table
+tests/header
 machines/make.py --check
 tests/programs.py
 $(BUILD_COMPARE)
