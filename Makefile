@@ -17,6 +17,7 @@ tests/header
 machines/make.py --check
 tests/programs.py
 $(BUILD_COMPARE)
+tests/stack
 $(COMPARE) self --cases 1000 --seed 1
 $(COMPARE) power --seed 1
 $(COMPARE) programs $(PROGRAMS) --cases 500 --seed 1

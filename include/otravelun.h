@@ -5,7 +5,8 @@
  * its statement in crates/board/specs/Boundary.antt says, for all words; the layout below is that statement's.
  *
  * Memory. A call keeps nothing: it reads and writes only what it is lent, and takes no heap. As the archive is built it uses less than
- * 10,000 bytes of stack, which is measured and not proved.
+ * 10,000 bytes of stack. That is read from the archive's machine code and not proved; 128 bytes are allowed for the C library's memcpy,
+ * memmove or memset under it.
  * A pointer must not be null, also where its length is 0; it must be aligned for its type and point at that many elements. What a
  * call writes must not overlap anything else that is lent to the same call. Nothing else is required of any argument.
  *
