@@ -3,7 +3,8 @@
  * The machine is machines/labeller.machine: weigh (task 0) every 20 ticks, price and label (1, 2) every 40, belt (3) every 10. The
  * scale weighs twice for each pack, and a label is for the weighing that was dispatched with it. Each job here works for as many
  * ticks as its row allows, so a label is still at work when the scale has weighed again; it prints what stands in its inputs at its
- * very end. That is its own weighing, and the price that was worked out from it, each time.
+ * very end. That is its own weighing, and the price that was worked out from it, each time. The scale shows no weight twice, so the
+ * weight on a label tells which weighing it is from.
  *
  * make -C examples check
  */
@@ -16,11 +17,14 @@ enum { WEIGH, PRICE, LABEL, BELT };
 enum { WEIGHT_TO_PRICE, PRICE_TO_LABEL, WEIGHT_TO_LABEL };
 
 #define TICKS 200
+#define WEIGHINGS_A_PACK 2
 #define CENTS_A_KILOGRAM 1290
 
 static uint16_t tasks[OTRAVELUN_TASK_WORDS];
 static uint16_t connections[OTRAVELUN_CONNECTION_WORDS];
 static uint32_t state[OTRAVELUN_STATE_WORDS];
+
+static unsigned weighings, labels, wrong;
 
 static void stop(const char *what, uint64_t answer)
 {
@@ -39,25 +43,54 @@ static uint32_t cents(uint32_t grams)
     return grams * CENTS_A_KILOGRAM / 1000;
 }
 
+/* What the scale shows at each weighing. */
+static uint32_t scale(unsigned weighing)
+{
+    return 480 + 37 * weighing % 101;
+}
+
+/* Which of the weighings so far gave a weight. */
+static unsigned weighing_of(uint32_t grams)
+{
+    unsigned weighing = 0;
+
+    while (weighing < weighings && scale(weighing) != grams)
+        weighing++;
+    return weighing;
+}
+
+static uint32_t weigh(unsigned tick)
+{
+    uint32_t grams = scale(weighings);
+
+    printf("%3u weighing %u: %u g\n", tick, weighings++, (unsigned)grams);
+    return grams;
+}
+
+static uint32_t label(unsigned tick)
+{
+    uint32_t grams = input(WEIGHT_TO_LABEL), price = input(PRICE_TO_LABEL);
+    unsigned own = WEIGHINGS_A_PACK * labels;
+
+    printf("%3u label %u: %u g (weighing %u), %u cents; the scale shows %u g\n", tick, labels, (unsigned)grams, weighing_of(grams),
+           (unsigned)price, (unsigned)scale(weighings - 1));
+    labels++;
+    wrong += grams != scale(own) || price != cents(scale(own));
+    return grams;
+}
+
 /* The word that a job ends with. */
 static uint32_t result(unsigned task, unsigned tick)
 {
-    static uint32_t weighings, position;
-    uint32_t grams;
+    static uint32_t position;
 
     switch (task) {
     case WEIGH:
-        grams = 480 + 37 * weighings % 101;
-        printf("%3u weighing %u: %u g\n", tick, (unsigned)weighings++, (unsigned)grams);
-        return grams;
+        return weigh(tick);
     case PRICE:
         return cents(input(WEIGHT_TO_PRICE));
     case LABEL:
-        grams = input(WEIGHT_TO_LABEL);
-        printf("%3u label: %u g, %u cents\n", tick, (unsigned)grams, (unsigned)input(PRICE_TO_LABEL));
-        if (input(PRICE_TO_LABEL) != cents(grams))
-            printf("%3u the price is another pack's\n", tick);
-        return grams;
+        return label(tick);
     default:
         return ++position;
     }
@@ -112,5 +145,6 @@ int main(int argc, char **argv)
                 stop("completion", answer);
         }
     }
-    return 0;
+    printf("%u labels, %u with a weight or a price that is not their own\n", labels, wrong);
+    return wrong != 0;
 }
