@@ -1,5 +1,5 @@
 # make test      the gate: layout, proofs, must-fail edits, stored runs, comparisons; its last line is 'N passed, M failed'
-# make run       builds the two programs and shows them on the session of document 01
+# make run       proves and builds the programs, and shows them on two machines; last, which weight each label carried
 # make compare   compares any number of cases with the second program: make compare CASES=100000 SEED=7
 # make bench     compares speed with C and writes docs/SPEED.md (needs valgrind; clang where there is one)
 
@@ -32,12 +32,7 @@ test:
 	@printf '%s\n' "$$CHECKS" | tests/gate
 
 run:
-	@mkdir -p target
-	@rt check list step >target/run.log 2>&1 || { cat target/run.log; exit 1; }
-	@echo '$$ list < machines/session.machine'
-	@target/bin/list <machines/session.machine
-	@echo '$$ step machines/session.machine < tests/step/session.twenty-ticks.in'
-	@target/bin/step machines/session.machine <tests/step/session.twenty-ticks.in
+	@examples/show
 
 compare:
 	rt check list step
