@@ -1,5 +1,7 @@
 // The proved functions under the bench, with the machine, the calls and the sum of bench/drive.h. Standard input has a letter, a digit
 // and a machine file: t for ticks of the machine, p for plans of its tables, r for reads of its file, ten to the power of the digit times.
+#![tactic(auto)]
+
 use libc::{STDIN_FILENO, STDOUT_FILENO};
 use rules::{Answer, Plan, Reading};
 

@@ -63,7 +63,7 @@ pub(crate) fn words(out: &mut [u32], words: &[u32], start: usize)
 }
 
 // The tasks by their phases. (An array of structs is not lent: it is answered, beside the mark.)
-#[derive(Drop)]
+#[derive(Clone, Copy)]
 pub(crate) struct Tasks {
     pub(crate) fit: bool,
     pub(crate) tasks: [Task; 32],

@@ -7,7 +7,7 @@ use crate::{columns, layout};
 use rules::{State, Task};
 
 // The columns that a state keeps of the task table, and whether their words fit.
-#[derive(Drop)]
+#[derive(Clone, Copy)]
 pub(crate) struct TaskPart {
     pub(crate) fit: bool,
     pub(crate) periods: [u16; 32],
@@ -48,7 +48,7 @@ fn task_part(words: &[u32]) -> TaskPart
 }
 
 // The columns of the connection rows, with their words.
-#[derive(Drop)]
+#[derive(Clone, Copy)]
 pub(crate) struct RowPart {
     pub(crate) fit: bool,
     pub(crate) senders: [u8; 64],
@@ -83,7 +83,7 @@ fn row_part(words: &[u32]) -> RowPart
 }
 
 // The order, and what each task is at.
-#[derive(Drop)]
+#[derive(Clone, Copy)]
 pub(crate) struct RunPart {
     pub(crate) fit: bool,
     pub(crate) order: [u8; 32],
@@ -114,7 +114,7 @@ fn run_part(words: &[u32]) -> RunPart
 }
 
 // The words before the columns: the counts, the common multiple, the cycle and the two marks.
-#[derive(Drop)]
+#[derive(Clone, Copy)]
 pub(crate) struct HeadPart {
     pub(crate) fit: bool,
     pub(crate) count: usize,
@@ -190,7 +190,7 @@ fn joined(h: HeadPart, t: TaskPart, c: RowPart, r: RunPart) -> State
 }
 
 // The state of the words, and whether they encode one.
-#[derive(Drop)]
+#[derive(Clone, Copy)]
 pub(crate) struct Decoded {
     pub(crate) fit: bool,
     pub(crate) state: State,

@@ -1,5 +1,7 @@
 // The executive for C: the same five calls over plain words. include/otravelun.h has the layout of the words and of the number that
 // each call answers.
+#![tactic(auto)]
+
 mod answers;
 mod columns;
 mod decoding;

@@ -1,8 +1,10 @@
 // The line decoder of the step program (01, "Numbers from the bench"): what one line asks for.
+#![tactic(auto)]
+
 ghost use Rattle.std.specs.Prelude.{◌≡◌};
 ghost use Rattle.calls.specs.Line.{call_of, word_of};
 
-#[derive(Drop)]
+#[derive(Clone, Copy)]
 pub enum Call {
     Tick,
     Complete(u32),

@@ -1,4 +1,6 @@
 // The executive: fresh start on any two tables, tick and completion on any state. Each step stands in a file of its own.
+#![tactic(auto)]
+
 ghost use Rattle.std.specs.Prelude.{◌≡◌};
 ghost use Rattle.rules.specs.Calls.{tick_of, complete_of};
 ghost use Rattle.rules.specs.Answers.{StepIs};

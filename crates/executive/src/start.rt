@@ -6,7 +6,7 @@ ghost use Rattle.executive.specs.Start.{BytesFit, TaskColumnsAre, EndsFit, RowCo
 use rules::{Phase, Plan, State, Task};
 
 // The values of the tasks by table position.
-#[derive(Drop)]
+#[derive(Clone, Copy)]
 pub(crate) struct TaskColumns {
     pub(crate) periods: [u16; 32],
     pub(crate) deadlines: [u16; 32],
@@ -44,7 +44,7 @@ fn task_columns(tasks: &[u16], n: usize) -> TaskColumns
 }
 
 // The values of the connections by row.
-#[derive(Drop)]
+#[derive(Clone, Copy)]
 pub(crate) struct RowColumns {
     pub(crate) senders: [u8; 64],
     pub(crate) receivers: [u8; 64],

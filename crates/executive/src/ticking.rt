@@ -9,7 +9,7 @@ use crate::range::refusal;
 use rules::{Answer, Task};
 
 // The answer, and what a tick changes besides the columns that it is lent.
-#[derive(Drop)]
+#[derive(Clone, Copy)]
 pub(crate) struct Ticked {
     pub(crate) answer: Answer,
     pub(crate) tasks: [Task; 32],

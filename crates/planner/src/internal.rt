@@ -5,13 +5,13 @@ ghost use Rattle.planner.specs.Internal.{lower, Workable, NumbersAre, ColumnsAre
 
 use crate::places::task_at;
 
-#[derive(Drop)]
+#[derive(Clone, Copy)]
 struct Numbers {
     deadline: u32,
     criticality: u8,
 }
 
-#[derive(Drop)]
+#[derive(Clone, Copy)]
 pub(crate) struct Columns {
     pub(crate) deadlines: [u32; 32],
     pub(crate) criticalities: [u8; 32],

@@ -1,4 +1,6 @@
 // The planner: the order in which the tasks run, worked out from the two tables, or the first refusal that stands against them.
+#![tactic(auto)]
+
 ghost use Rattle.std.specs.Prelude.{◌≡◌};
 ghost use Rattle.rules.specs.Plan.{PlanIs};
 ghost use Rattle.rules.proofs.Refusals.{NoneUnder};

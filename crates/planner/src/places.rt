@@ -5,7 +5,7 @@ ghost use Rattle.rules.specs.Tables.{count, rows};
 ghost use Rattle.planner.specs.Places.{values_of, row_of, fit, joins, uneven, raised, stands, Readable};
 
 // The five words of a task, and the three of a connection row.
-#[derive(Drop)]
+#[derive(Clone, Copy)]
 pub(crate) struct Values {
     pub(crate) period: u16,
     pub(crate) deadline: u16,
@@ -14,7 +14,7 @@ pub(crate) struct Values {
     pub(crate) flag: u16,
 }
 
-#[derive(Drop)]
+#[derive(Clone, Copy)]
 pub(crate) struct Row {
     pub(crate) sender: u16,
     pub(crate) receiver: u16,

@@ -1,5 +1,7 @@
 // The reader of the machine file (01, "The two tables and the machine file"): the file's records go into the two tables in file
 // order, and no value is judged.
+#![tactic(auto)]
+
 ghost use Rattle.std.specs.Prelude.{◌≡◌, ◌+◌, ◌*◌, ◌≤◌, ◌<◌, length, drop};
 ghost use Rattle.rules.specs.File.{task_row, connection_row, marked, item_at};
 ghost use Rattle.reader.specs.Rows.{task_words_of, connection_words_of, item_is};
@@ -8,7 +10,7 @@ ghost use Rattle.reader.specs.Read.{stored, PassIs, ReadIs};
 use rules::Reading;
 
 // The five words of a task.
-#[derive(Drop)]
+#[derive(Clone, Copy)]
 struct TaskRow {
     period: u16,
     deadline: u16,
@@ -18,7 +20,7 @@ struct TaskRow {
 }
 
 // The three words of a connection.
-#[derive(Drop)]
+#[derive(Clone, Copy)]
 struct ConnectionRow {
     sender: u16,
     receiver: u16,
@@ -26,7 +28,7 @@ struct ConnectionRow {
 }
 
 // What stands at one place of the file: a record, its end, or a refusal's number and place.
-#[derive(Drop)]
+#[derive(Clone, Copy)]
 enum Item {
     Task(TaskRow),
     Connection(ConnectionRow),

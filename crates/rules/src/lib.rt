@@ -1,20 +1,21 @@
 // The types that all pieces share. The rules themselves are the definitions in specs/.
+#![tactic(auto)]
 
 // In the state each task is idle, waiting or started. Idle is first: it is what stands past the last task.
-#[derive(Drop)]
+#[derive(Clone, Copy)]
 pub enum Phase {
     Idle,
     Waiting,
     Started,
 }
 
-#[derive(Drop)]
+#[derive(Clone, Copy)]
 pub struct Task {
     pub phase: Phase,
 }
 
 // A machine in columns: one entry a task (32) or a connection (64), those past the counts unused.
-#[derive(Drop)]
+#[derive(Clone, Copy)]
 pub struct State {
     // The plan, which no call changes: how many tasks and connection rows there are, their values by table position,
     // the order (highest priority first) and the common multiple of the periods.
@@ -43,7 +44,7 @@ pub struct State {
 }
 
 // The answer of the executive: Running and Missed with a task, Refused with number and place.
-#[derive(Drop)]
+#[derive(Clone, Copy)]
 pub enum Answer {
     Running(usize),
     Idle,
@@ -51,28 +52,28 @@ pub enum Answer {
     Refused(usize, usize),
 }
 
-#[derive(Drop)]
+#[derive(Clone, Copy)]
 pub struct Step {
     pub answer: Answer,
     pub state: State,
 }
 
 // The answer of the reader: how many tasks and connections it read, or a refusal's number and place.
-#[derive(Drop)]
+#[derive(Clone, Copy)]
 pub enum Reading {
     Read(usize, usize),
     Refused(usize, usize),
 }
 
 // Whether the tables were accepted, or a refusal's number and place.
-#[derive(Drop)]
+#[derive(Clone, Copy)]
 pub enum Verdict {
     Accepted,
     Refused(usize, usize),
 }
 
 // The answer of the planner: the order, both internal numbers of each task by table position, and the common multiple.
-#[derive(Drop)]
+#[derive(Clone, Copy)]
 pub struct Plan {
     pub verdict: Verdict,
     pub order: [u8; 32],

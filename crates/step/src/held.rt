@@ -4,7 +4,7 @@ ghost use Rattle.calls.specs.Line.{call_of};
 ghost use Rattle.step.specs.Session.{keeping};
 ghost use Rattle.step.specs.Serving.{held};
 
-#[derive(Drop)]
+#[derive(Clone, Copy)]
 pub(crate) struct Held {
     pub(crate) bytes: [u8; 13],
     pub(crate) count: usize,

@@ -1,5 +1,7 @@
 // The step program (01, "Numbers from the bench"): reads the machine file that its argument names, then answers the calls on standard
 // input, one a line.
+#![tactic(auto)]
+
 ghost use Rattle.io.specs.Counts.{IsPrefixLen};
 
 use libc::{STDIN_FILENO, STDOUT_FILENO};

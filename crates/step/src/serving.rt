@@ -11,7 +11,7 @@ use calls::Call;
 use rules::{State, Step};
 
 // Between two bytes: the state, and the line that has begun. It goes on until the input has ended or a write has failed.
-#[derive(Drop)]
+#[derive(Clone, Copy)]
 pub(crate) struct Desk {
     pub(crate) state: State,
     pub(crate) line: Held,
@@ -19,14 +19,14 @@ pub(crate) struct Desk {
 }
 
 // A state, and the place behind what was printed.
-#[derive(Drop)]
+#[derive(Clone, Copy)]
 struct Obeyed {
     state: State,
     end: usize,
 }
 
 // A desk, and how much was printed.
-#[derive(Drop)]
+#[derive(Clone, Copy)]
 pub(crate) struct Served {
     pub(crate) desk: Desk,
     pub(crate) end: usize,

@@ -1,5 +1,7 @@
 // The lines that the programs print (01, "Numbers from the bench"), each put at a place of a lent buffer. A line that does not fit
 // there changes nothing.
+#![tactic(auto)]
+
 ghost use Rattle.std.specs.Prelude.{[], ◌++◌, ◌+◌, ◌≤◌, length};
 ghost use Rattle.io.specs.Counts.{IsPrefixLen};
 ghost use Rattle.text.specs.Lines.{decimal, spaced, newline, refused, answer_line, bad_line, table_head, table_row};
