@@ -2,7 +2,6 @@
 // and a machine file: t for ticks of the machine, p for plans of its tables, r for reads of its file, ten to the power of the digit times.
 #![tactic(auto)]
 
-use libc::{STDIN_FILENO, STDOUT_FILENO};
 use rules::{Answer, Plan, Reading};
 
 fn mixed(sum: u32, x: u32) -> u32 {
@@ -169,14 +168,14 @@ fn run(what: u8, times: u32, file: &mut [u8]) -> u32 {
     }
 }
 
-fn main() {
+fn main(rt: HostRuntime) -> std::io::Result<()> {
     let mut input = [0u8; 1024];
-    let got = io::read_full(STDIN_FILENO, &mut input);
+    let got = streams::read_full(&mut rt.stdin(), &mut input);
     if got < 2 {
-        return;
+        return Ok(());
     }
     let what = input[0];
     let times = times_of(input[1]);
-    io::print_decimal(STDOUT_FILENO, run(what, times, &mut input[2..got]) as u64);
-    io::write_all(STDOUT_FILENO, b"\n");
+    let sum = run(what, times, &mut input[2..got]);
+    println!(rt; "{sum}")
 }

@@ -7,8 +7,8 @@ ghost use Rattle.text.specs.Buffers.{Put};
 ghost use Rattle.rules.specs.declared.Verdict.TheVariants.{Accepted};
 ghost use Rattle.list.specs.Listing.{rows_of, plan_text, refusal_line, ListIs};
 
-use libc::{STDIN_FILENO, STDOUT_FILENO};
 use rules::{Answer, Plan, Reading, Verdict};
+use std::io::Write;
 
 fn wide(x: u8) -> usize
     ensures { result ≡ x }
@@ -99,10 +99,10 @@ fn listing(file: &[u8], out: &mut [u8]) -> usize
 }
 
 // The first 643 bytes decide any file.
-fn main() {
+fn main(rt: HostRuntime) {
     let mut file = io::buffer();
-    let n = io::read_full(STDIN_FILENO, &mut file);
+    let n = streams::read_full(&mut rt.stdin(), &mut file);
     let mut out = io::buffer();
     let k = listing(&file[..n], &mut out);
-    io::write_all(STDOUT_FILENO, &out[..k]);
+    let _ = rt.stdout().write_all(&out[..k]);
 }

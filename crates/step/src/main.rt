@@ -4,46 +4,47 @@
 
 ghost use Rattle.io.specs.Counts.{IsPrefixLen};
 
-use libc::{STDIN_FILENO, STDOUT_FILENO};
 use rules::Answer;
 use serving::Desk;
+use std::env::Env;
+use std::fs;
+use std::io::Write;
 
 mod held;
 mod opening;
 mod serving;
 
 // The first bytes of the file that the argument names, 643 of which decide it; none where it is not named, not opened or not read.
-fn load(file: &mut [u8; 4096]) -> usize
+fn load(rt: &HostRuntime, file: &mut [u8; 4096]) -> usize
     ensures { IsPrefixLen result file.new }
 {
     let mut name = io::buffer();
-    let length = os::arg(1, &mut name);
-    if os::errno() != 0 {
+    let Ok(length) = rt.arg(1, &mut name) else {
         return 0;
-    }
-    let fd = os::open_read(&name[..length]);
-    if fd < 0 {
+    };
+    let Ok(path) = std::str::from_utf8(&name[..length]) else {
         return 0;
-    }
-    let n = io::read_full(fd, file);
-    libc::close(fd);
-    n
+    };
+    let Ok(mut opened) = fs::open(rt, path) else {
+        return 0;
+    };
+    streams::read_full(&mut opened, file)
 }
 
-fn say(answer: Answer) -> bool {
+fn say(rt: &HostRuntime, answer: Answer) -> bool {
     let mut out = io::buffer();
     let n = text::answer_line(answer, &mut out, 0);
-    io::write_all(STDOUT_FILENO, &out[..n])
+    rt.stdout().write_all(&out[..n]).is_ok()
 }
 
 // One turn: a piece of the input, whose calls are answered before the next is read. The input's end ends the last line.
-fn turn(desk: Desk) -> Desk {
+fn turn(rt: &HostRuntime, desk: Desk) -> Desk {
     let mut bytes = [0u8; 1024];
     let mut out = [0u8; 51200];
-    let got = libc::read(STDIN_FILENO, &mut bytes);
-    if got <= 0 {
+    let n = streams::read_some(&mut rt.stdin(), &mut bytes);
+    if n == 0 {
         let end = serving::finish(desk, &mut out);
-        io::write_all(STDOUT_FILENO, &out[..end]);
+        let _ = rt.stdout().write_all(&out[..end]);
         let state = desk.state;
         let line = desk.line;
         return Desk {
@@ -52,10 +53,9 @@ fn turn(desk: Desk) -> Desk {
             going: false,
         };
     }
-    let n = io::count(got, &bytes);
     let served = serving::serve(desk, &bytes[..n], &mut out);
     let end = served.end;
-    let going = io::write_all(STDOUT_FILENO, &out[..end]);
+    let going = rt.stdout().write_all(&out[..end]).is_ok();
     let next = served.desk;
     let state = next.state;
     let line = next.line;
@@ -63,11 +63,11 @@ fn turn(desk: Desk) -> Desk {
 }
 
 // Each turn but the last takes a byte at least: no run has 2^64 - 1 of them.
-fn run(start: Desk) {
+fn run(rt: &HostRuntime, start: Desk) {
     let mut desk = start;
     let mut turns = u64::MAX;
     while turns > 0 {
-        desk = turn(desk);
+        desk = turn(rt, desk);
         let going = desk.going;
         if !going {
             return;
@@ -76,19 +76,22 @@ fn run(start: Desk) {
     }
 }
 
-fn main() {
+fn main(rt: HostRuntime) {
     let mut file = io::buffer();
-    let n = load(&mut file);
+    let n = load(&rt, &mut file);
     let start = opening::opened(&file[..n]);
     let answer = start.answer;
     let Answer::Idle = answer else {
-        say(answer);
+        say(&rt, answer);
         return;
     };
     let state = start.state;
-    run(Desk {
-        state,
-        line: held::nothing(),
-        going: true,
-    });
+    run(
+        &rt,
+        Desk {
+            state,
+            line: held::nothing(),
+            going: true,
+        },
+    );
 }

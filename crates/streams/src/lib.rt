@@ -1,0 +1,31 @@
+// Bytes from an open stream into a lent buffer.
+#![tactic(auto)]
+
+ghost use Rattle.io.specs.Counts.{IsPrefixLen};
+
+use std::io::Read;
+
+// Reads until the buffer is full, the input ends or a read fails, and answers how many bytes it put at the buffer's start.
+pub fn read_full<R: Read>(from: &mut R, buf: &mut [u8]) -> usize
+    ensures { IsPrefixLen result buf.new }
+{
+    let mut done = 0;
+    while done < buf.len() {
+        let n = read_some(from, &mut buf[done..]);
+        if n == 0 {
+            break;
+        }
+        done += n;
+    }
+    done
+}
+
+// One read: how many bytes it put at the buffer's start, none at the input's end or where it failed.
+pub fn read_some<R: Read>(from: &mut R, buf: &mut [u8]) -> usize
+    ensures { IsPrefixLen result buf.new }
+{
+    match from.read(buf) {
+        Ok(n) => n,
+        Err(_) => 0,
+    }
+}
