@@ -2,16 +2,13 @@
 -- the whole file gives from its start. A record that is read keeps this, and at the file's end nothing is left.
 use mathlib.Core.Path.{◌≡◌, refl, ap, sym, subst, ◌∙◌}
 use mathlib.Core.Bool.{Bool, true, false}
-use mathlib.Core.List.{List, [], ◌∷◌, ◌++◌}
-use Prim.Native.Nat.{ℕ, suc, ◌+◌, ◌*◌, ◌-◌, ◌≤◌, ◌<◌}
-use native.Mathlib.Nat.{add-zero}
+use mathlib.Core.List.{List, [], ◌++◌}
+use Prim.Native.Nat.{ℕ, ◌+◌, ◌*◌, ◌-◌, ◌≤◌}
 use native.Mathlib.Omega.{arith}
-use lib.ListN.{length, drop, set}
-use lib.Seq.{sets}
+use lib.ListN.{length, drop}
 use Rattle.rules.specs.Sizes.{most_tasks, most_rows}
 use Rattle.rules.specs.File.{Item, item_at, contents_of, reading_of, task_words, connection_words}
 use Rattle.rules.specs.Answers.{reading_says}
-use Rattle.rules.specs.declared.Reading.{Reading}
 use Rattle.rules.specs.declared.Reading.TheVariants as reading
 use Rattle.rules.proofs.Parts.{sets_then}
 use Rattle.rules.proofs.File.{Sound, left, left_task, left_connection, left_end, left_refusal, sound_here}

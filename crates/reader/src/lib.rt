@@ -50,6 +50,7 @@ fn wide(x: u8) -> u16
 }
 
 // Period, deadline and compute, low byte first; criticality; flag.
+#[tactic(auto, unfolding(rules::specs::File::task_row))]
 fn task_row(body: &[u8]) -> TaskRow
     requires { 8 ≤ length body.now }
     ensures { task_words_of result ≡ task_row body.now }
@@ -64,6 +65,7 @@ fn task_row(body: &[u8]) -> TaskRow
 }
 
 // Sender, receiver, kind.
+#[tactic(auto, unfolding(rules::specs::File::connection_row))]
 fn connection_row(body: &[u8]) -> ConnectionRow
     requires { 3 ≤ length body.now }
     ensures { connection_words_of result ≡ connection_row body.now }
@@ -76,6 +78,7 @@ fn connection_row(body: &[u8]) -> ConnectionRow
 }
 
 // The mark decides the record, at byte `at` behind t tasks and c connections; the body is the part of the file after the mark.
+#[tactic(auto, unfolding(rules::specs::File::marked))]
 fn record_at(mark: u16, body: &[u8], at: usize, t: usize, c: usize) -> Item
     requires { at < 9223372036854775808 }
     ensures { item_is result ≡ marked mark at t c body.now }
