@@ -6,15 +6,15 @@
 CASES = 20000
 SEED = 1
 COMPARE = target/compare
-BUILD_COMPARE = rt staticlib board && rustc --edition 2021 -O -D warnings --cfg board -L target/staticlib -l static=board -o $(COMPARE) second/src/main.rs
+BUILD_COMPARE = tools/build board && rustc --edition 2021 -O -D warnings --cfg board -L target/staticlib -l static=board -o $(COMPARE) second/src/main.rs
 PROGRAMS = --list target/bin/list --step target/bin/step
 
 define CHECKS
-rt fmt --check
-rt ci
+tests/proved
 tests/rules-table
 tests/header
 machines/make.py --check
+tools/build list step
 tests/programs.py
 $(BUILD_COMPARE)
 tests/stack
@@ -35,11 +35,11 @@ run:
 	@examples/show
 
 compare:
-	rt check list step
+	tools/build list step
 	$(BUILD_COMPARE)
 	$(COMPARE) programs $(PROGRAMS) --cases $(CASES) --seed $(SEED)
 	$(COMPARE) board --cases $(CASES) --seed $(SEED)
 
 bench:
-	rt check bench
+	tools/build bench
 	bench/run
