@@ -1,0 +1,5 @@
+use Rattle.planner.proofs.Rounds.{step-none}
+use Rattle.planner.proofs.chains.step.Goals as goal
+
+pub loop-c-init : goal.loop-c-init
+loop-c-init c = step-none _ _
