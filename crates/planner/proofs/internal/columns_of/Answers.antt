@@ -14,8 +14,8 @@ loop-i-preserved c =
       within = omega arith;
       deadlines_so_far =
           column-turn (λ q. deadline_over tw sq q (count tw)) l.i 0 most_tasks _ _ l.invariant.deadlines_so_far
-          c.numbers_of-x.ensures.deadline-is;
+          c.numbers_of-x.ensures.deadline_is;
       criticalities_so_far =
           column-turn (λ q. criticality_over tw sq q (count tw)) l.i 0 most_tasks _ _ l.invariant.criticalities_so_far
-          c.numbers_of-x.ensures.criticality-is;
+          c.numbers_of-x.ensures.criticality_is;
     }

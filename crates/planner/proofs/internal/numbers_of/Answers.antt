@@ -1,7 +1,7 @@
 use Rattle.std.proofs.Common.{arith}
 use Rattle.rules.specs.Tables.{criticality}
 use Rattle.planner.specs.Internal.{between}
-use Rattle.planner.proofs.Internals.{least-low}
+use Rattle.planner.proofs.Internals.{least_low}
 use Rattle.planner.proofs.internal.numbers_of.Goals as goal
 
 pub overflow_cast-least : goal.overflow_cast-least
@@ -11,6 +11,6 @@ overflow_cast-least c =
     omega (
       arith,
       c.loop-j.invariant.criticality_so_far,
-      (c.requires.0.sized i c.requires.1).criticality-high,
-      least-low (criticality tw i) (between c.args.chains.now i) (criticality tw) c.loop-j.j,
+      (c.requires.0.sized i c.requires.1).criticality_high,
+      least_low (criticality tw i) (between c.args.chains.now i) (criticality tw) c.loop-j.j,
     )
