@@ -1,6 +1,7 @@
 -- The first choice names the running task, whose word goes out, and the second one is made on the columns without it.
 use Rattle.std.proofs.Common.{◌≡◌, ℕ, List, ap, sym}
 use mathlib.Core.Path.{◌∙◌}
+use borrow.Author.Tests.{not-true, not-false}
 use lib.ListN.{set}
 use Rattle.rules.specs.Counting.{map_below}
 use Rattle.rules.specs.Views.{task_in, dispatch, moved}
@@ -27,15 +28,16 @@ pub returns-then-not-c : goal.returns-then-not-c
 returns-then-not-c c = λ z.
     let a = c.args in
     let s = toComplete a.n a.m a.senders.now a.receivers.now a.undelayed.now a.order.now a.dispatches.now z a.tasks a.outputs.now a.buffers.now a.inputs.now in
-    sym (completing-none s a.word (sym c.choose-c.ensures.some_is ∙ c.if-not-c.true))
+    sym (completing-none s a.word (sym c.choose-c.ensures.some_is ∙ not-true _ c.if-not-c.true))
 
 pub returns : goal.returns
 returns c = λ z.
     let a = c.args in
     let said = c.choose-c in
+    let some = not-false _ c.if-not-c.false in
     let i = said.result.task in
     let buffers = c.post.new.buffers in
     let s = toComplete a.n a.m a.senders.now a.receivers.now a.undelayed.now a.order.now a.dispatches.now z a.tasks a.outputs.now a.buffers.now a.inputs.now in
     c.run.ensures (ended_by s i a.word buffers)
-    ∙ (ap chosen (ended_is s i a.word buffers c.post.ensures ∙ ap (λ (k : ℕ). ended_at s k a.word) (said.ensures.task_is c.if-not-c.false))
-    ∙ sym (completing-on s a.word (sym said.ensures.some_is ∙ c.if-not-c.false)))
+    ∙ (ap chosen (ended_is s i a.word buffers c.post.ensures ∙ ap (λ (k : ℕ). ended_at s k a.word) (said.ensures.task_is some))
+    ∙ sym (completing-on s a.word (sym said.ensures.some_is ∙ some)))
