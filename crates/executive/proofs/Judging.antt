@@ -1,6 +1,6 @@
 -- The tests 16 and 15 before a call is carried out: by the number k of the one that stands.
 use mathlib.Core.Path.{◌≡◌, refl, ap, sym, ◌∙◌}
-use mathlib.Core.Bool.{Bool, true, false}
+use mathlib.Core.Bool.{Bool, true, false, ◌&&◌}
 use Prim.Native.Nat.{ℕ, ◌≤◌, ◌<◌}
 use native.Mathlib.Omega.{arith}
 use Rattle.rules.specs.Steps.{step}
@@ -10,7 +10,8 @@ use Rattle.rules.specs.declared.State.{State}
 use Rattle.rules.specs.declared.Step.{Step}
 use Rattle.rules.specs.declared.Answer.TheVariants as answer
 use Rattle.rules.proofs.Calls.{judged-out, judged-halted, judged-on}
-use Rattle.executive.specs.Range.{refusal_of}
+use Rattle.rules.proofs.Range.{in_range-parts}
+use Rattle.executive.specs.Range.{sizes_in, tables_in, refusal_of}
 
 stands : (ranged halted : Bool) (s : State) (carried : Step) (k : ℕ) → k ≡ refusal_of ranged halted → 0 < k →
     step (answer.Refused k 0) s ≡ judged ranged halted s carried
@@ -22,6 +23,14 @@ none : (ranged halted : Bool) (k : ℕ) → k ≡ refusal_of ranged halted → k
 none true true k e h = absurd (omega arith)
 none true false k e h = (refl, refl)
 none false halted k e h = absurd (omega arith)
+
+-- the number that is told of the columns is the state's
+pub number_of : (s : State) (k : ℕ) →
+    k ≡ refusal_of
+    (sizes_in s.count s.rows s.multiple s.cycle
+    && tables_in s.periods s.deadlines s.computes s.dispatches s.senders s.receivers s.order s.count s.rows s.multiple)
+    s.halted → k ≡ refusal_of (in_range s) s.halted
+number_of s k e = e ∙ ap (λ (b : Bool). refusal_of b s.halted) (sym (in_range-parts s))
 
 module _ (s : State) (k : ℕ) (e : k ≡ refusal_of (in_range s) s.halted) where
   pub in_range_by : k ≤ 0 → in_range s ≡ true

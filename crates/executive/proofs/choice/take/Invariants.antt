@@ -1,0 +1,11 @@
+-- The rows before `c` have their words. The measure is what is left of the rows.
+use Rattle.std.proofs.Common.{◌≡◌, ◌-◌, ◌≤◌}
+use Rattle.rules.specs.Counting.{map_below}
+use Rattle.executive.specs.Columns.{takes_in}
+use Rattle.executive.proofs.choice.take.Given as goal
+
+abbrev pub invariant-loop-c : goal.invariant-loop-c
+invariant-loop-c l = (l.c ≤ l.m) × (l.inputs ≡ map_below (takes_in l.receivers l.undelayed l.buffers l.i) l.c l.initial.inputs)
+
+abbrev pub decreases-loop-c : goal.decreases-loop-c
+decreases-loop-c l = l.m - l.c
