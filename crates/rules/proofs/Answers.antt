@@ -16,8 +16,8 @@ use Rattle.rules.specs.declared.Step.{Step}
 
 module _ {A B : Type 0} (says : A → B) (from : B → A) where
   -- what can be undone is injective
-  undone-injective : ((a : A) → from (says a) ≡ a) → (a b : A) → says a ≡ says b → a ≡ b
-  undone-injective back a b e = sym (back a) ∙ (ap from e ∙ back b)
+  undone_injective : ((a : A) → from (says a) ≡ a) → (a b : A) → says a ≡ says b → a ≡ b
+  undone_injective back a b e = sym (back a) ∙ (ap from e ∙ back b)
 
 answer_of : Told → Answer
 answer_of t =
@@ -32,7 +32,7 @@ answer_back answer.Idle = refl
 answer_back (answer.Missed i) = refl
 
 pub answer_says-injective : (a b : Answer) → answer_says a ≡ answer_says b → a ≡ b
-answer_says-injective = undone-injective answer_says answer_of answer_back
+answer_says-injective = undone_injective answer_says answer_of answer_back
 
 verdict_of : Told → Verdict
 verdict_of t = cond (eqb t.kind 0) (verdict.Refused t.number t.value) verdict.Accepted
@@ -43,7 +43,7 @@ verdict_back (verdict.Refused n p) = refl
 verdict_back verdict.Accepted = refl
 
 pub verdict_says-injective : (a b : Verdict) → verdict_says a ≡ verdict_says b → a ≡ b
-verdict_says-injective = undone-injective verdict_says verdict_of verdict_back
+verdict_says-injective = undone_injective verdict_says verdict_of verdict_back
 
 reading_of : Told → Reading
 reading_of t = cond (eqb t.kind 0) (reading.Refused t.number t.value) (reading.Read t.number t.value)
@@ -54,7 +54,7 @@ reading_back (reading.Refused n p) = refl
 reading_back (reading.Read t c) = refl
 
 pub reading_says-injective : (a b : Reading) → reading_says a ≡ reading_says b → a ≡ b
-reading_says-injective = undone-injective reading_says reading_of reading_back
+reading_says-injective = undone_injective reading_says reading_of reading_back
 
 -- a step that is the one wanted says what it says, and no other does
 pub step-refl : (w r : Step) → r ≡ w → StepIs w r

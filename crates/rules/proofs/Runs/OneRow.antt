@@ -163,8 +163,8 @@ module _ {Ps Ds Pr Dr M T : ℕ} {ws wr : List ℕ} {xs xr : Phase} {os or ds dr
   }
 
   -- recorded cycles tell dispatches apart
-  told_apart : 0 < T → dr ≡ ds → latest Pr T ≡ latest Ps T
-  told_apart h e =
+  told-apart : 0 < T → dr ≡ ds → latest Pr T ≡ latest Ps T
+  told-apart h e =
       let m : latest Pr T % M ≡ latest Ps T % M = sym (both.receiver_fact.at_dispatch h) ∙ e ∙ both.sender_fact.at_dispatch h in
       let pr : Pr ≤ M = le_of_dvd both.receiver_paced.multiple_pos both.receiver_paced.divides in
       let ps : Ps ≤ M = le_of_dvd both.sender_paced.multiple_pos both.sender_paced.divides in
@@ -184,7 +184,7 @@ module _ {Ps Ds Pr Dr M T : ℕ} {ws wr : List ℕ} {xs xr : Phase} {os or ds dr
     -- the receiver has the same recorded cycle: the job that is meant has ended
     posted : dr ≡ ds → UndelayedFact Ps Pr T (ws ++ (w ∷ [])) xr w i
     posted e =
-        let l : latest Pr T ≡ latest Ps T = told_apart (working both.sender_fact busy) e in
+        let l : latest Pr T ≡ latest Ps T = told-apart (working both.sender_fact busy) e in
         let x : meant Ps Pr T ≡ suc (length ws) =
         same_count Ps (meant Ps Pr T) (suc (length ws))
         (omega (arith, own, up_to-within Ps 0 (latest Pr T) both.sender_paced.period_pos (omega arith)))
