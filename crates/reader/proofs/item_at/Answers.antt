@@ -1,7 +1,7 @@
 -- No byte, one byte, or a mark with the rest of the file behind it, which is what the record is handed.
 use Rattle.std.proofs.Common.{sym, ap, ◌∙◌, ℕ, ◌+◌, drop, arith}
 use Rattle.rules.specs.File.{marked}
-use Rattle.rules.proofs.Parts.{part-from}
+use Rattle.rules.proofs.Parts.{part_from}
 use Rattle.rules.proofs.File.{item_none, item_cut, item_marked}
 use Rattle.reader.proofs.item_at.Goals as goal
 
@@ -15,6 +15,6 @@ pub returns : goal.returns
 returns c =
     let a = c.args in
     c.record_at.ensures
-    ∙ ap (marked c.word-mark.result a.at a.t a.c) (part-from a.file.now (a.at + 2))
+    ∙ ap (marked c.word-mark.result a.at a.t a.c) (part_from a.file.now (a.at + 2))
     ∙ ap (λ (m : ℕ). marked m a.at a.t a.c (drop (a.at + 2) a.file.now)) c.word-mark.ensures
     ∙ sym (item_marked a.file.now a.at a.t a.c (omega arith))
