@@ -4,7 +4,6 @@ use Rattle.std.proofs.Common.{◌≡◌, ℕ, ◌≤◌, Bool, true, false, List
 use mathlib.Core.Path.{◌∙◌}
 use Rattle.rules.specs.Steps.{step, chosen, missing}
 use Rattle.rules.specs.Views.{moved, set_cycle, set_halted}
-use Rattle.rules.specs.declared.State.{State}
 use Rattle.rules.specs.declared.Answer.TheVariants as answer
 use Rattle.rules.proofs.Steps.{ticking-missed, ticking-on}
 use Rattle.executive.specs.Marks.{any_below, marked}
@@ -70,9 +69,9 @@ returns c = λ z.
     let w = c.exchange-woken in
     let exchanged = moved s w.result s.outputs w.new.dispatches w.new.buffers w.new.inputs s.cycle s.ticked s.halted in
     let same =
-      exchanged-is s m.new.due m.new.released (record { sends = x.sends; receives = x.receives; falling = falling; freeing = freeing })
-      w.result w.new.dispatches w.new.buffers w.new.inputs
-      w.ensures.buffers_after w.ensures.inputs_after w.ensures.dispatches_after w.ensures.value
+    exchanged-is s m.new.due m.new.released (record { sends = x.sends; receives = x.receives; falling = falling; freeing = freeing })
+    w.result w.new.dispatches w.new.buffers w.new.inputs
+    w.ensures.buffers_after w.ensures.inputs_after w.ensures.dispatches_after w.ensures.value
     in
     c.run-c.ensures (set_cycle exchanged c.after-next.result true)
     ∙ (ap chosen (advanced-is s exchanged c.after-next.result same c.after-next.ensures) ∙ sym (ticking-on s on))
