@@ -24,7 +24,7 @@ use Rattle.board.specs.declared.decoding.Decoded.{Decoded}
 use Rattle.board.specs.Boundary.{step_says, step_leaves, Leavable, CallsTo}
 use Rattle.board.proofs.Narrow.{StepNarrow}
 use Rattle.board.proofs.Encoded.{encodes-encoded}
-use Rattle.board.proofs.WordsBack.{table-part}
+use Rattle.board.proofs.WordsBack.{table_part}
 
 module _ (call : State → Step) (old : List ℕ) (r : ℕ) where
   unencoded : encodes old ≡ false → r ≡ coded no_state → CallsTo call old r old
@@ -34,9 +34,9 @@ module _ (call : State → Step) (old : List ℕ) (r : ℕ) where
   unfolding encodes
   few_words h = unencoded (and_not_left (leb state_size (length old)) (words_fit old) (lt-leb state_size (length old) h))
 
-  pub no-state : words_fit old ≡ false → r ≡ coded no_state → CallsTo call old r old
+  pub no_state_lem : words_fit old ≡ false → r ≡ coded no_state → CallsTo call old r old
   unfolding encodes
-  no-state e = unencoded (and_not_right (leb state_size (length old)) (words_fit old) e)
+  no_state_lem e = unencoded (and_not_right (leb state_size (length old)) (words_fit old) e)
 
 -- a decoder's mark
 pub decoded-fit : (ws : List ℕ) (d : Decoded) → d ≡ decoded ws → d.fit ≡ words_fit ws
@@ -75,7 +75,7 @@ leavable call old x w k n a b =
     rw w.is
     (record {
       room = v.enough;
-      tables = rw (← same_tables s z k.plan) (table-part old v);
+      tables = rw (← same_tables s z k.plan) (table_part old v);
       counted = record { count_fits = omega (arith, plan_count s z k.plan); rows_fit = omega (arith, plan_rows s z k.plan) };
       narrow = n;
     })

@@ -31,7 +31,7 @@ use Rattle.rules.specs.declared.Answer.TheVariants as answer
 use Rattle.rules.proofs.Tests.{cond_by}
 use Rattle.rules.proofs.Steps.{SamePlan, chosen-answer, ended_at-plan}
 use Rattle.rules.proofs.Kept.{NamesTasks, plan_count, names-plan, running-task, exchanged_kept}
-use Rattle.rules.proofs.Refusals.{Lengths, lengths-under, lengths-of}
+use Rattle.rules.proofs.Refusals.{Lengths, lengths_under, lengths_of}
 use Rattle.rules.proofs.Range.{Ranged, in_range-ranged}
 use Rattle.rules.proofs.File.{contents_ends, contents_counts}
 use Rattle.rules.proofs.FileFront.{decisive, contents_front}
@@ -40,7 +40,7 @@ use Rattle.board.specs.Codes.{coded, Narrow}
 use Rattle.board.specs.StateWords.{Counted}
 
 pub narrow : (k n v : ℕ) → k < 256 → n < 256 → v < 65536 → Narrow (told k n v)
-narrow k n v a b c = record { kind-below = a; number_below = b; value-below = c }
+narrow k n v a b c = record { kind_below = a; number_below = b; value_below = c }
 
 told_is : (k n v l m w : ℕ) → k ≡ l → n ≡ m → v ≡ w → told k n v ≡ told l m w
 told_is k n v l m w a b c = rw (a, b, c) refl
@@ -49,9 +49,9 @@ told_is k n v l m w a b c = rw (a, b, c) refl
 pub coded-one : (a b : Told) → Narrow a → Narrow b → coded a ≡ coded b → a ≡ b
 coded-one a b p q e =
     told_is a.kind a.number a.value b.kind b.number b.value
-    (omega (arith, p.kind-below, q.kind-below))
-    (omega (arith, p.kind-below, p.number_below, q.kind-below, q.number_below))
-    (omega (arith, p.kind-below, p.number_below, q.kind-below, q.number_below))
+    (omega (arith, p.kind_below, q.kind_below))
+    (omega (arith, p.kind_below, p.number_below, q.kind_below, q.number_below))
+    (omega (arith, p.kind_below, p.number_below, q.kind_below, q.number_below))
 
 -- the answer to a file depends on its first 643 bytes, and a refusal stands within them or at their end
 contents_narrow : (file : List ℕ) (a : Reading) → reading_of 0 0 (contents_of file) ≡ a → Narrow (reading_says a)
@@ -90,7 +90,7 @@ chosen-narrow s names few =
     (λ _. narrow 2 0 0 (omega arith) (omega arith) (omega arith)))
 
 planned-narrow : (s z : State) → Ranged s → SamePlan s z → StepNarrow (chosen z)
-planned-narrow s z r p = chosen-narrow z (names-plan s z p r.names-task) (omega (arith, plan_count s z p, r.sizes.few))
+planned-narrow s z r p = chosen-narrow z (names-plan s z p r.names_task) (omega (arith, plan_count s z p, r.sizes.few))
 
 ticking-narrow : (s : State) → Ranged s → StepNarrow (ticking s)
 unfolding ticking
@@ -122,52 +122,52 @@ complete_narrow s w = judged-narrow (in_range s) s.halted s (completing s w) (λ
 -- a refusal of the tables is one of eight, and stands at a task or a row of tables that are not too long, or at 0
 module _ (tw cw : List ℕ) where
   short : (k p : ℕ) → 3 ≤ k → Refusal tw cw k p → Lengths tw cw
-  short k p h w = lengths-under tw cw (λ l q b. w.lowest l q (omega arith))
+  short k p h w = lengths_under tw cw (λ l q b. w.lowest l q (omega arith))
 
   at-task : (k p : ℕ) → 3 ≤ k → Refusal tw cw k p → p < count tw → p < most_rows
   at-task k p h w b = omega (arith, (short k p h w).tasks_most)
 
   at_row : (k p : ℕ) → 3 ≤ k → Refusal tw cw k p → p < rows cw → p < most_rows
-  at_row k p h w b = omega (arith, (short k p h w).rows-most)
+  at_row k p h w b = omega (arith, (short k p h w).rows_most)
 
-  place-low : (k p : ℕ) → Refusal tw cw k p → (k < 9) × (p < most_rows)
-  place-low zero p w = absurd w.stands
-  place-low (suc zero) p w = (omega arith, omega (arith, w.stands.0))
-  place-low (suc (suc zero)) p w = (omega arith, omega (arith, w.stands.0))
-  place-low (suc (suc (suc zero))) p w = (omega arith, at-task 3 p (omega arith) w w.stands.0)
-  place-low (suc (suc (suc (suc zero)))) p w = (omega arith, at_row 4 p (omega arith) w w.stands.0)
-  place-low (suc (suc (suc (suc (suc zero))))) p w = (omega arith, at_row 5 p (omega arith) w w.stands.0)
-  place-low (suc (suc (suc (suc (suc (suc zero)))))) p w = (omega arith, at-task 6 p (omega arith) w w.stands.0)
-  place-low (suc (suc (suc (suc (suc (suc (suc zero))))))) p w = (omega arith, at_row 7 p (omega arith) w w.stands.0)
-  place-low (suc (suc (suc (suc (suc (suc (suc (suc zero)))))))) p w = (omega arith, omega (arith, w.stands.0))
-  place-low (suc (suc (suc (suc (suc (suc (suc (suc (suc k))))))))) p w = absurd w.stands
+  place_low : (k p : ℕ) → Refusal tw cw k p → (k < 9) × (p < most_rows)
+  place_low zero p w = absurd w.stands
+  place_low (suc zero) p w = (omega arith, omega (arith, w.stands.0))
+  place_low (suc (suc zero)) p w = (omega arith, omega (arith, w.stands.0))
+  place_low (suc (suc (suc zero))) p w = (omega arith, at-task 3 p (omega arith) w w.stands.0)
+  place_low (suc (suc (suc (suc zero)))) p w = (omega arith, at_row 4 p (omega arith) w w.stands.0)
+  place_low (suc (suc (suc (suc (suc zero))))) p w = (omega arith, at_row 5 p (omega arith) w w.stands.0)
+  place_low (suc (suc (suc (suc (suc (suc zero)))))) p w = (omega arith, at-task 6 p (omega arith) w w.stands.0)
+  place_low (suc (suc (suc (suc (suc (suc (suc zero))))))) p w = (omega arith, at_row 7 p (omega arith) w w.stands.0)
+  place_low (suc (suc (suc (suc (suc (suc (suc (suc zero)))))))) p w = (omega arith, omega (arith, w.stands.0))
+  place_low (suc (suc (suc (suc (suc (suc (suc (suc (suc k))))))))) p w = absurd w.stands
 
-  refusal-of-tables : (k p : ℕ) → Refusal tw cw k p → Narrow (told 0 k p)
-  refusal-of-tables k p w = let b = place-low k p w in narrow 0 k p (omega arith) (omega (arith, b.0)) (omega (arith, b.1))
+  refusal_of_tables : (k p : ℕ) → Refusal tw cw k p → Narrow (told 0 k p)
+  refusal_of_tables k p w = let b = place_low k p w in narrow 0 k p (omega arith) (omega (arith, b.0)) (omega (arith, b.1))
 
-  judges-narrow : (v : Verdict) (r : Plan) → Judges tw cw v r → Narrow (verdict_says v)
-  judges-narrow verdict.Accepted r w = narrow 4 0 0 (omega arith) (omega arith) (omega arith)
-  judges-narrow (verdict.Refused k p) r w = refusal-of-tables k p w.because
+  judges_narrow : (v : Verdict) (r : Plan) → Judges tw cw v r → Narrow (verdict_says v)
+  judges_narrow verdict.Accepted r w = narrow 4 0 0 (omega arith) (omega arith) (omega arith)
+  judges_narrow (verdict.Refused k p) r w = refusal_of_tables k p w.because
 
-  pub plan-narrow : (r : Plan) → PlanIs tw cw r → Narrow (verdict_says r.verdict)
-  plan-narrow r w = judges-narrow r.verdict r w
+  pub plan_narrow : (r : Plan) → PlanIs tw cw r → Narrow (verdict_says r.verdict)
+  plan_narrow r w = judges_narrow r.verdict r w
 
   -- a fresh start follows its plan
   start-narrow : (v : Verdict) (r : Plan) → Judges tw cw v r → StepNarrow (start_of tw cw r v)
   unfolding start_of
   start-narrow verdict.Accepted r w = narrow 2 0 0 (omega arith) (omega arith) (omega arith)
-  start-narrow (verdict.Refused k p) r w = refusal-of-tables k p w.because
+  start-narrow (verdict.Refused k p) r w = refusal_of_tables k p w.because
 
-  pub fresh-narrow : (r : Step) → FreshIs tw cw r → StepNarrow r
-  fresh-narrow r w = rw w.starts.answer (start-narrow w.plan.verdict w.plan w.planned)
+  pub fresh_narrow : (r : Step) → FreshIs tw cw r → StepNarrow r
+  fresh_narrow r w = rw w.starts.answer (start-narrow w.plan.verdict w.plan w.planned)
 
   -- and its counts are words
   start-counted : (v : Verdict) (r : Plan) → Judges tw cw v r → Counted (start_of tw cw r v).state
   unfolding start_of fresh_state halted_zeros
   start-counted verdict.Accepted r w =
-      let l = lengths-of tw cw w.sound in
-      record { count_fits = omega (arith, l.tasks_most); rows_fit = omega (arith, l.rows-most) }
+      let l = lengths_of tw cw w.sound in
+      record { count_fits = omega (arith, l.tasks_most); rows_fit = omega (arith, l.rows_most) }
   start-counted (verdict.Refused k p) r w = record { count_fits = omega arith; rows_fit = omega arith }
 
-  pub fresh-counted : (r : Step) → FreshIs tw cw r → Counted r.state
-  fresh-counted r w = rw w.starts.state (start-counted w.plan.verdict w.plan w.planned)
+  pub fresh_counted : (r : Step) → FreshIs tw cw r → Counted r.state
+  fresh_counted r w = rw w.starts.state (start-counted w.plan.verdict w.plan w.planned)

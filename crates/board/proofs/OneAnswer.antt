@@ -25,30 +25,30 @@ reads_one file tasks connections r q t u c d a b =
     (a.answer ∙ ap (λ x. coded (reading_says x)) w.0 ∙ sym b.answer, w.1, w.2)
 
 module _ (tw cw old : List ℕ) (r q : ℕ) (new next : List ℕ) where
-  none-one : NoRoom old r new → NoRoom old q next → (r ≡ q) × (new ≡ next)
-  none-one a b = (a.answer ∙ sym b.answer, a.words ∙ sym b.words)
+  none_one : NoRoom old r new → NoRoom old q next → (r ≡ q) × (new ≡ next)
+  none_one a b = (a.answer ∙ sym b.answer, a.words ∙ sym b.words)
 
-  plans-one : PlansTo tw cw old r new → PlansTo tw cw old q next → (r ≡ q) × (new ≡ next)
-  plans-one a b =
+  plans_one : PlansTo tw cw old r new → PlansTo tw cw old q next → (r ≡ q) × (new ≡ next)
+  plans_one a b =
       let e = plan_one tw cw a.plan b.plan a.planned b.planned in
       (a.answer ∙ ap (λ (p : Plan). coded (verdict_says p.verdict)) e ∙ sym b.answer, a.words ∙ ap (planned_in old) e ∙ sym b.words)
 
-  starts-one : StartsTo tw cw old r new → StartsTo tw cw old q next → (r ≡ q) × (new ≡ next)
-  starts-one a b =
+  starts_one : StartsTo tw cw old r new → StartsTo tw cw old q next → (r ≡ q) × (new ≡ next)
+  starts_one a b =
       let e = fresh_one tw cw a.step b.step a.started b.started in
       (a.answer ∙ ap (λ (x : Step). coded (step_says x)) e ∙ sym b.answer, a.words ∙ ap (λ (x : Step). stored_in old x.state) e ∙ sym b.words)
 
   -- with room and without
-  room-one : (b : Bool) (X Y : ℕ → List ℕ → Type 0) → (X r new → X q next → (r ≡ q) × (new ≡ next)) →
+  room_one : (b : Bool) (X Y : ℕ → List ℕ → Type 0) → (X r new → X q next → (r ≡ q) × (new ≡ next)) →
       (Y r new → Y q next → (r ≡ q) × (new ≡ next)) → ByRoom b (X r new) (Y r new) → ByRoom b (X q next) (Y q next) → (r ≡ q) × (new ≡ next)
-  room-one true X Y x y a b = x a b
-  room-one false X Y x y a b = y a b
+  room_one true X Y x y a b = x a b
+  room_one false X Y x y a b = y a b
 
-  pub plan-told-one : PlanTold tw cw old r new → PlanTold tw cw old q next → (r ≡ q) × (new ≡ next)
-  plan-told-one = room-one (leb plan_size (length old)) (PlansTo tw cw old) (NoRoom old) plans-one none-one
+  pub plan_told_one : PlanTold tw cw old r new → PlanTold tw cw old q next → (r ≡ q) × (new ≡ next)
+  plan_told_one = room_one (leb plan_size (length old)) (PlansTo tw cw old) (NoRoom old) plans_one none_one
 
-  pub fresh-told-one : FreshTold tw cw old r new → FreshTold tw cw old q next → (r ≡ q) × (new ≡ next)
-  fresh-told-one = room-one (leb state_size (length old)) (StartsTo tw cw old) (NoRoom old) starts-one none-one
+  pub fresh_told_one : FreshTold tw cw old r new → FreshTold tw cw old q next → (r ≡ q) × (new ≡ next)
+  fresh_told_one = room_one (leb state_size (length old)) (StartsTo tw cw old) (NoRoom old) starts_one none_one
 
 pub calls_one : (call : State → Step) (old : List ℕ) (r q : ℕ) (new next : List ℕ) → CallsTo call old r new → CallsTo call old q next →
     (r ≡ q) × (new ≡ next)

@@ -13,8 +13,8 @@ by_false : (b : Bool) (room none : Type 0) → b ≡ false → none → ByRoom b
 by_false b room none e x = rw e x
 
 module _ (room none : Type 0) (n words : ℕ) where
-  pub with-room : n ≤ words → room → ByRoom (leb n words) room none
-  with-room h = by_true (leb n words) room none (le-leb n words h)
+  pub with_room : n ≤ words → room → ByRoom (leb n words) room none
+  with_room h = by_true (leb n words) room none (le-leb n words h)
 
-  pub without-room : words < n → none → ByRoom (leb n words) room none
-  without-room h = by_false (leb n words) room none (lt-leb n words h)
+  pub without_room : words < n → none → ByRoom (leb n words) room none
+  without_room h = by_false (leb n words) room none (lt-leb n words h)

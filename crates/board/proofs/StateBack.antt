@@ -17,7 +17,7 @@ use Rattle.rules.specs.declared.Phase.TheVariants as phase
 use Rattle.rules.specs.declared.Task.{Task}
 use Rattle.rules.specs.declared.State.{State}
 use Rattle.rules.proofs.Tests.{eq_or}
-use Rattle.rules.proofs.Counting.{mapBelow-at, mapBelow-length, all_below-all}
+use Rattle.rules.proofs.Counting.{map_below-at, map_below-length, all_below-all}
 use Rattle.board.specs.Layout.{marks_at, tasks_at, rows_at, order_at, phases_at, outputs_at, dispatches_at, buffers_at, inputs_at, state_size}
 use Rattle.board.specs.Widths.{times, bytes, marks, phases}
 use Rattle.board.specs.Columns.{word_at, fits_at, below, taken, cut, same}
@@ -62,10 +62,10 @@ module _ (ws : List ℕ) (start apart n : ℕ) where
       ((k : ℕ) → k < n → f (word_at ws start apart k) ≡ get_or l k z) → taken f ws start apart n (replicate n z) ≡ l
   taken_is f z l e h =
       let m : length (taken f ws start apart n (replicate n z)) ≡ n =
-      mapBelow-length (λ k _. f (word_at ws start apart k)) n (replicate n z) ∙ length-replicate n z in
+      map_below-length (λ k _. f (word_at ws start apart k)) n (replicate n z) ∙ length-replicate n z in
       ext_get_or z (taken f ws start apart n (replicate n z)) l (m ∙ sym e)
       (λ k b.
-      mapBelow-at (λ j _. f (word_at ws start apart j)) n (replicate n z) k z (omega arith) (omega (arith, length-replicate n z))
+      map_below-at (λ j _. f (word_at ws start apart j)) n (replicate n z) k z (omega arith) (omega (arith, length-replicate n z))
       ∙ h k (omega arith))
 
   cut-is : (limit : ℕ) (l : List ℕ) → length l ≡ n → ((k : ℕ) → get_or l k 0 < limit) →
@@ -127,9 +127,9 @@ module _ (s : State) (t : List ℕ) (f : Fitting s) where
   at : Placed s (state_words s ++ t)
   at = placed s t f.sized
 
-  pub state-back : state_from (state_words s ++ t) ≡ s
+  pub state_back : state_from (state_words s ++ t) ≡ s
   unfolding state_from
-  state-back =
+  state_back =
       let ws = state_words s ++ t in
       let z = f.sized in
       fields_are s _ _ _ _ _ _ _ _ _ _ _ _ _ _ _ _ _ _ _ _
@@ -155,18 +155,18 @@ module _ (s : State) (t : List ℕ) (f : Fitting s) where
       (ap mark_from at.ticked ∙ mark_back s.ticked)
       (ap mark_from at.halted ∙ mark_back s.halted)
 
-  mark-words : (k : ℕ) → k < 2 → word_at (state_words s ++ t) marks_at 1 k < marks
-  mark-words k h =
+  mark_words : (k : ℕ) → k < 2 → word_at (state_words s ++ t) marks_at 1 k < marks
+  mark_words k h =
       ⊎_elim (λ e. rw e (rw at.ticked (mark_low s.ticked)))
       (λ n. let e : k ≡ 1 = omega arith in rw e (rw at.halted (mark_low s.halted))) (eq_or k 0)
 
-  pub state-encodes : encodes (state_words s ++ t) ≡ true
-  state-encodes =
+  pub state_encodes : encodes (state_words s ++ t) ≡ true
+  state_encodes =
       let ws = state_words s ++ t in
       encoded_encodes ws
       (record {
         enough = rw (length-append (state_words s) t, words_count s f.sized) (omega arith);
-        marked = all_below-all (fits_at ws marks_at 1 marks) 2 (λ k h. lt-ltb (word_at ws marks_at 1 k) marks (mark-words k h));
+        marked = all_below-all (fits_at ws marks_at 1 marks) 2 (λ k h. lt-ltb (word_at ws marks_at 1 k) marks (mark_words k h));
         periods = below-is ws tasks_at task_width most_tasks times (period s) f.periods at.periods;
         deadlines = below-is ws (tasks_at + 1) task_width most_tasks times (deadline s) f.deadlines at.deadlines;
         computes = below-is ws (tasks_at + 2) task_width most_tasks times (compute s) f.computes at.computes;

@@ -25,7 +25,7 @@ use Rattle.rules.specs.declared.Verdict.{Verdict}
 use Rattle.rules.specs.declared.Verdict.TheVariants as verdict
 use Rattle.rules.proofs.Tests.{by_test, lt_or, cond_true, cond_false}
 use Rattle.rules.proofs.Counting.{column-at, column-past, column-length}
-use Rattle.rules.proofs.Refusals.{tables-of}
+use Rattle.rules.proofs.Refusals.{tables_of}
 use Rattle.rules.proofs.Kept.{Kept, set_halted-kept}
 use Rattle.rules.proofs.Calls.{tick_kept, tick_refused, complete_kept, complete_refused}
 use Rattle.board.specs.Codes.{coded}
@@ -34,7 +34,7 @@ use Rattle.board.specs.Layout.{state_size}
 use Rattle.board.specs.StateWords.{state_words, state_from, stored_in}
 use Rattle.board.specs.Boundary.{StartsTo, step_says, step_leaves, CallsTo}
 use Rattle.board.proofs.WordPlaces.{Sized}
-use Rattle.board.proofs.StateBack.{Fitting, state-back, state-encodes, words_count}
+use Rattle.board.proofs.StateBack.{Fitting, state_back, state_encodes, words_count}
 
 -- what a call keeps fits
 pub kept_fitting : (s z : State) → Kept s z → Fitting s → Fitting z
@@ -85,23 +85,23 @@ leaves_on s x t w same =
     (λ e. cond_false (refused x.answer) (state_words s ++ t) (stored_in (state_words s ++ t) x.state) e ∙ stored_on s x.state t w)
 
 module _ (s : State) (t : List ℕ) (r : ℕ) (new : List ℕ) (f : Fitting s) where
-  call-through : (call : State → Step) → Kept s (call s).state → (refused (call s).answer ≡ true → (call s).state ≡ s) →
+  call_through : (call : State → Step) → Kept s (call s).state → (refused (call s).answer ≡ true → (call s).state ≡ s) →
       CallsTo call (state_words s ++ t) r new → Through (call s) t r new
-  call-through call k same w =
+  call_through call k same w =
       let ws = state_words s ++ t in
-      let e = state-encodes s t f in
-      let b : call (state_from ws) ≡ call s = ap call (state-back s t f) in
+      let e = state_encodes s t f in
+      let b : call (state_from ws) ≡ call s = ap call (state_back s t f) in
       record {
         answer = w.answer ∙ rw (e, b) refl;
         words = w.words ∙ rw (e, b) (leaves_on s (call s) t f.sized same);
         fits = kept_fitting s (call s).state k f;
       }
 
-  pub tick-through : CallsTo tick_of (state_words s ++ t) r new → Through (tick_of s) t r new
-  tick-through = call-through tick_of (tick_kept s) (tick_refused s)
+  pub tick_through : CallsTo tick_of (state_words s ++ t) r new → Through (tick_of s) t r new
+  tick_through = call_through tick_of (tick_kept s) (tick_refused s)
 
-  pub complete-through : (w : ℕ) → CallsTo (λ z. complete_of z w) (state_words s ++ t) r new → Through (complete_of s w) t r new
-  complete-through w = call-through (λ z. complete_of z w) (complete_kept s w) (complete_refused s w)
+  pub complete_through : (w : ℕ) → CallsTo (λ z. complete_of z w) (state_words s ++ t) r new → Through (complete_of s w) t r new
+  complete_through w = call_through (λ z. complete_of z w) (complete_kept s w) (complete_refused s w)
 
 -- a column of values below a limit, with zeros past them
 low_column : (f : ℕ → ℕ) (n places limit : ℕ) → n ≤ places → 0 < limit → ((k : ℕ) → k < n → f k < limit) → (k : ℕ) → get_or (column f n 0 places) k 0 < limit
@@ -134,22 +134,22 @@ fresh_fitting : (tw cw : List ℕ) (p : Plan) → count tw ≤ most_tasks → ro
 unfolding fresh_state
 fresh_fitting tw cw p n m sizes joins o low = record {
   sized = fresh_sized tw cw p o;
-  periods = low_column (period tw) (count tw) most_tasks times n (omega arith) (λ k h. omega (arith, (sizes k h).period-high));
+  periods = low_column (period tw) (count tw) most_tasks times n (omega arith) (λ k h. omega (arith, (sizes k h).period_high));
   deadlines = low_column (deadline tw) (count tw) most_tasks times n (omega arith)
-      (λ k h. omega (arith, (sizes k h).period-high, (sizes k h).deadline-high));
+      (λ k h. omega (arith, (sizes k h).period_high, (sizes k h).deadline_high));
   computes = low_column (compute tw) (count tw) most_tasks times n (omega arith)
-      (λ k h. omega (arith, (sizes k h).period-high, (sizes k h).deadline-high, (sizes k h).compute-high));
-  criticalities = low_column (criticality tw) (count tw) most_tasks bytes n (omega arith) (λ k h. omega (arith, (sizes k h).criticality-high));
-  senders = low_column (sender cw) (rows cw) most_rows bytes m (omega arith) (λ k h. omega (arith, (joins k h).sender-task));
-  receivers = low_column (receiver cw) (rows cw) most_rows bytes m (omega arith) (λ k h. omega (arith, (joins k h).receiver-task));
+      (λ k h. omega (arith, (sizes k h).period_high, (sizes k h).deadline_high, (sizes k h).compute_high));
+  criticalities = low_column (criticality tw) (count tw) most_tasks bytes n (omega arith) (λ k h. omega (arith, (sizes k h).criticality_high));
+  senders = low_column (sender cw) (rows cw) most_rows bytes m (omega arith) (λ k h. omega (arith, (joins k h).sender_task));
+  receivers = low_column (receiver cw) (rows cw) most_rows bytes m (omega arith) (λ k h. omega (arith, (joins k h).receiver_task));
   order = low;
 }
 
 accepted_fitting : (tw cw : List ℕ) (p : Plan) → Accepts tw cw p → Fitting (fresh_state tw cw p)
 accepted_fitting tw cw p a =
-    let t = tables-of tw cw a.sound in
+    let t = tables_of tw cw a.sound in
     let n = t.lengths.tasks_most in
-    fresh_fitting tw cw p n t.lengths.rows-most t.sizes t.joins a.order_past.0
+    fresh_fitting tw cw p n t.lengths.rows_most t.sizes t.joins a.order_past.0
     (λ k. ⊎_elim (λ l. omega (arith, a.order_is.names k l)) (λ g. omega (arith, a.order_past.1 k g)) (lt_or k (count tw)))
 
 zeros_fitting : Fitting halted_zeros

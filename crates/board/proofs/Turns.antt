@@ -10,7 +10,7 @@ use native.Mathlib.Nat.{zero-mul, suc-mul}
 use lib.ListN.{get_or, set, take, length, length-set, length-append}
 use lib.Seq.{sets, length-sets, take-suc, take_all, length-take-le}
 use lib.Dec.{ltb}
-use Rattle.rules.proofs.Counting.{mapBelow-turn, all_below-turn, all_below-end}
+use Rattle.rules.proofs.Counting.{map_below-turn, all_below-turn, all_below-end}
 use Rattle.board.specs.Columns.{word_at, fits_at, below, taken, Takes}
 use Rattle.board.specs.Rows.{rows_of, Lays}
 use Rattle.board.proofs.Layers.{sets_append}
@@ -25,24 +25,24 @@ pub record Testing (ws : List ℕ) (start apart limit k : ℕ) (fits : Bool) : T
   pub tells : fits ≡ below ws start apart limit k
 
 module _ {A : Type 0} (f : ℕ → A) (ws : List ℕ) (start apart n : ℕ) (old : List A) where
-  pub taking-none : Taking f ws start apart n 0 old old
-  taking-none = record { passed = omega arith; sized = refl; holds = refl }
+  pub taking_none : Taking f ws start apart n 0 old old
+  taking_none = record { passed = omega arith; sized = refl; holds = refl }
 
-  pub taking-turn : (d : A) (k x : ℕ) (new : List A) → Taking f ws start apart n k old new → k < n → x ≡ word_at ws start apart k →
+  pub taking_turn : (d : A) (k x : ℕ) (new : List A) → Taking f ws start apart n k old new → k < n → x ≡ word_at ws start apart k →
       Taking f ws start apart n (k + 1) old (set new k (f x))
-  taking-turn d k x new t h e = record {
+  taking_turn d k x new t h e = record {
     passed = omega arith;
     sized = length-set new k (f x) ∙ t.sized;
-    holds = mapBelow-turn (λ j _. f (word_at ws start apart j)) k old new d (f x) t.holds (ap f e);
+    holds = map_below-turn (λ j _. f (word_at ws start apart j)) k old new d (f x) t.holds (ap f e);
   }
 
-  pub taking-end : (k : ℕ) (new : List A) → Taking f ws start apart n k old new → n ≤ k → new ≡ taken f ws start apart n old
-  taking-end k new t z = let q : k ≡ n = omega arith in rw q at t.holds
+  pub taking_end : (k : ℕ) (new : List A) → Taking f ws start apart n k old new → n ≤ k → new ≡ taken f ws start apart n old
+  taking_end k new t z = let q : k ≡ n = omega arith in rw q at t.holds
 
   pub takes-end : (limit k : ℕ) (new : List A) (fits : Bool) → Taking f ws start apart n k old new → Testing ws start apart limit k fits →
       n ≤ k → Takes f limit ws start apart n old new fits
   takes-end limit k new fits t e z = record {
-    holds = taking-end k new t z;
+    holds = taking_end k new t z;
     tells = all_below-end (fits_at ws start apart limit) n k fits t.passed z e.tells;
   }
 
@@ -64,20 +64,20 @@ rows_of-length f w h zero = rw zero-mul
 rows_of-length f w h (suc n) = rw (length-append, rows_of-length f w h n, h n, suc-mul)
 
 module _ (start : ℕ) (f : ℕ → List ℕ) (n : ℕ) (old : List ℕ) where
-  pub laying-none : Laying start f n 0 old old
-  laying-none = record { passed = omega arith; sized = refl; lays = refl }
+  pub laying_none : Laying start f n 0 old old
+  laying_none = record { passed = omega arith; sized = refl; lays = refl }
 
-  pub laying-turn : (w k : ℕ) (new next : List ℕ) → ((j : ℕ) → length (f j) ≡ w) → Laying start f n k old new → k < n →
+  pub laying_turn : (w k : ℕ) (new next : List ℕ) → ((j : ℕ) → length (f j) ≡ w) → Laying start f n k old new → k < n →
       next ≡ sets new (start + k * w) (f k) → Laying start f n (k + 1) old next
-  laying-turn w k new next h s l q = record {
+  laying_turn w k new next h s l q = record {
     passed = omega arith;
     sized = ap length q ∙ length-sets new (start + k * w) (f k) ∙ s.sized;
     lays = rw (q, s.lays, add-one, sets_append, rows_of-length f w h k) refl;
   }
 
-  pub laying-end : (w k : ℕ) (new : List ℕ) → ((j : ℕ) → length (f j) ≡ w) → Laying start f n k old new → n ≤ k →
+  pub laying_end : (w k : ℕ) (new : List ℕ) → ((j : ℕ) → length (f j) ≡ w) → Laying start f n k old new → n ≤ k →
       Lays start (rows_of f n) (n * w) old new
-  laying-end w k new h s z =
+  laying_end w k new h s z =
       let q : k ≡ n = omega arith in
       record { sized = rows_of-length f w h n; holds = rw q at s.lays }
 
@@ -88,16 +88,16 @@ pub record Writing (start : ℕ) (l : List ℕ) (k : ℕ) (old new : List ℕ) :
   pub writes : new ≡ sets old start (take k l)
 
 module _ (start : ℕ) (l old : List ℕ) where
-  pub writing-none : Writing start l 0 old old
-  writing-none = record { passed = omega arith; sized = refl; writes = refl }
+  pub writing_none : Writing start l 0 old old
+  writing_none = record { passed = omega arith; sized = refl; writes = refl }
 
-  pub writing-turn : (k x : ℕ) (new : List ℕ) → Writing start l k old new → k < length l → x ≡ get_or l k 0 →
+  pub writing_turn : (k x : ℕ) (new : List ℕ) → Writing start l k old new → k < length l → x ≡ get_or l k 0 →
       Writing start l (k + 1) old (set new (start + k) x)
-  writing-turn k x new t h e = record {
+  writing_turn k x new t h e = record {
     passed = omega arith;
     sized = length-set new (start + k) x ∙ t.sized;
     writes = rw (e, t.writes, add-one, take-suc l k 0 h, sets_append, length-take-le k l t.passed) refl;
   }
 
-  pub writing-end : (k : ℕ) (new : List ℕ) → Writing start l k old new → length l ≤ k → new ≡ sets old start l
-  writing-end k new t z = t.writes ∙ ap (sets old start) (take_all k l z)
+  pub writing_end : (k : ℕ) (new : List ℕ) → Writing start l k old new → length l ≤ k → new ≡ sets old start l
+  writing_end k new t z = t.writes ∙ ap (sets old start) (take_all k l z)

@@ -11,7 +11,7 @@ use lib.ListN.{get_or, length, take, drop, length-map, length-replicate, length-
 use lib.Seq.{take-add, drop-drop, drop-cons, length-take-le, get_or-take, get_or-drop, ext_get_or}
 use borrow.Author.Tests.{ltb-true}
 use Rattle.rules.specs.Sizes.{most_tasks, most_rows, task_width, row_width, most_task_words, most_row_words}
-use Rattle.rules.proofs.Counting.{mapBelow-at, mapBelow-length, all_below-at}
+use Rattle.rules.proofs.Counting.{map_below-at, map_below-length, all_below-at}
 use Rattle.board.specs.Layout.{marks_at, tasks_at, rows_at, order_at, phases_at, outputs_at, dispatches_at, buffers_at, inputs_at, state_size}
 use Rattle.board.specs.Widths.{times, bytes, marks, phases}
 use Rattle.board.specs.Columns.{word_at, fits_at, below, taken, cut, same}
@@ -26,23 +26,23 @@ run ws p zero = []
 run ws p (suc n) = get_or ws p 0 ∷ run ws (p + 1) n
 
 module _ (ws : List ℕ) where
-  part-more : (a n m : ℕ) (l k : List ℕ) → Part ws a n l → Part ws (a + n) m k → Part ws a (n + m) (l ++ k)
-  part-more a n m l k p q = record { is = rw (p.is, q.is, take-add, drop-drop) refl }
+  part_more : (a n m : ℕ) (l k : List ℕ) → Part ws a n l → Part ws (a + n) m k → Part ws a (n + m) (l ++ k)
+  part_more a n m l k p q = record { is = rw (p.is, q.is, take-add, drop-drop) refl }
 
-  part-run : (n p : ℕ) → p + n ≤ length ws → Part ws p n (run ws p n)
+  part_run : (n p : ℕ) → p + n ≤ length ws → Part ws p n (run ws p n)
   unfolding run
-  part-run zero p h = record { is = refl }
-  part-run (suc n) p h = record { is = rw (drop-cons ws p 0 (omega arith), (part-run n (p + 1) (omega arith)).is, add-one) refl }
+  part_run zero p h = record { is = refl }
+  part_run (suc n) p h = record { is = rw (drop-cons ws p 0 (omega arith), (part_run n (p + 1) (omega arith)).is, add-one) refl }
 
   -- rows that are each a part
-  part-rows : (f : ℕ → List ℕ) (a w n : ℕ) → ((k : ℕ) → k < n → Part ws (a + k * w) w (f k)) → Part ws a (n * w) (rows_of f n)
-  part-rows f a w zero h = record { is = rw zero-mul refl }
-  part-rows f a w (suc n) h =
-      rw suc-mul (part-more a (n * w) w (rows_of f n) (f n) (part-rows f a w n (λ k l. h k (omega arith))) (h n (omega arith)))
+  part_rows : (f : ℕ → List ℕ) (a w n : ℕ) → ((k : ℕ) → k < n → Part ws (a + k * w) w (f k)) → Part ws a (n * w) (rows_of f n)
+  part_rows f a w zero h = record { is = rw zero-mul refl }
+  part_rows f a w (suc n) h =
+      rw suc-mul (part_more a (n * w) w (rows_of f n) (f n) (part_rows f a w n (λ k l. h k (omega arith))) (h n (omega arith)))
 
   -- a list of words
-  part-list : (a n : ℕ) (l : List ℕ) → length l ≡ n → a + n ≤ length ws → ((k : ℕ) → k < n → get_or l k 0 ≡ get_or ws (a + k) 0) → Part ws a n l
-  part-list a n l e b h =
+  part_list : (a n : ℕ) (l : List ℕ) → length l ≡ n → a + n ≤ length ws → ((k : ℕ) → k < n → get_or l k 0 ≡ get_or ws (a + k) 0) → Part ws a n l
+  part_list a n l e b h =
       let m : length (take n (drop a ws)) ≡ n = length-take-le n (drop a ws) (omega (arith, length-drop a ws)) in
       record {
         is = ext_get_or 0 l (take n (drop a ws)) (e ∙ sym m)
@@ -67,7 +67,7 @@ module _ (ws : List ℕ) (start apart n : ℕ) where
       back (f (word_at ws start apart k)) ≡ word_at ws start apart k →
       back (get_or (taken f ws start apart n (replicate n z)) k z) ≡ get_or ws i 0
   value-at f z back k i h e q =
-      ap back (mapBelow-at (λ j _. f (word_at ws start apart j)) n (replicate n z) k z h (omega (arith, length-replicate n z)))
+      ap back (map_below-at (λ j _. f (word_at ws start apart j)) n (replicate n z) k z h (omega (arith, length-replicate n z)))
       ∙ q ∙ ap (λ (j : ℕ). get_or ws j 0) e
 
   word_low : (limit k : ℕ) → below ws start apart limit n ≡ true → k < n → word_at ws start apart k < limit
@@ -77,14 +77,14 @@ module _ (ws : List ℕ) (start apart n : ℕ) where
       get_or (taken (cut limit) ws start apart n (replicate n 0)) k 0 ≡ get_or ws i 0
   cut_at limit k i e h q = value-at (cut limit) 0 same k i h q (mod-eq_of_lt (word_low limit k e h))
 
-  mark-at : (k i : ℕ) → below ws start apart marks n ≡ true → k < n → start + k * apart ≡ i →
+  mark_at : (k i : ℕ) → below ws start apart marks n ≡ true → k < n → start + k * apart ≡ i →
       mark_word (get_or (taken mark_from ws start apart n (replicate n false)) k false) ≡ get_or ws i 0
-  mark-at k i e h q = value-at mark_from false mark_word k i h q (mark_word_lem (word_at ws start apart k) (word_low marks k e h))
+  mark_at k i e h q = value-at mark_from false mark_word k i h q (mark_word_lem (word_at ws start apart k) (word_low marks k e h))
 
 module _ (ws : List ℕ) (e : Encoded ws) where
-  task-part : (k : ℕ) → k < most_tasks → Part ws (tasks_at + k * task_width) task_width (task_row (state_from ws) k)
+  task_part_lem : (k : ℕ) → k < most_tasks → Part ws (tasks_at + k * task_width) task_width (task_row (state_from ws) k)
   unfolding state_from run
-  task-part k h =
+  task_part_lem k h =
       let p = tasks_at + k * task_width in
       record {
         is =
@@ -93,76 +93,76 @@ module _ (ws : List ℕ) (e : Encoded ws) where
               cut_at ws (tasks_at + 1) task_width most_tasks times k (p + 1) e.deadlines h (omega arith),
               cut_at ws (tasks_at + 2) task_width most_tasks times k (p + 1 + 1) e.computes h (omega arith),
               cut_at ws (tasks_at + 3) task_width most_tasks bytes k (p + 1 + 1 + 1) e.criticalities h (omega arith),
-              mark-at ws (tasks_at + 4) task_width most_tasks k (p + 1 + 1 + 1 + 1) e.enforced h (omega arith),
+              mark_at ws (tasks_at + 4) task_width most_tasks k (p + 1 + 1 + 1 + 1) e.enforced h (omega arith),
             )
-            (part-run ws task_width p (omega (arith, e.enough))).is;
+            (part_run ws task_width p (omega (arith, e.enough))).is;
       }
 
-  row-part : (k : ℕ) → k < most_rows → Part ws (rows_at + k * row_width) row_width (connection_row (state_from ws) k)
+  row_part_lem : (k : ℕ) → k < most_rows → Part ws (rows_at + k * row_width) row_width (connection_row (state_from ws) k)
   unfolding state_from run
-  row-part k h =
+  row_part_lem k h =
       let p = rows_at + k * row_width in
       record {
         is =
             rw (
               cut_at ws rows_at row_width most_rows bytes k p e.senders h refl,
               cut_at ws (rows_at + 1) row_width most_rows bytes k (p + 1) e.receivers h (omega arith),
-              mark-at ws (rows_at + 2) row_width most_rows k (p + 1 + 1) e.undelayed h (omega arith),
+              mark_at ws (rows_at + 2) row_width most_rows k (p + 1 + 1) e.undelayed h (omega arith),
             )
-            (part-run ws row_width p (omega (arith, e.enough))).is;
+            (part_run ws row_width p (omega (arith, e.enough))).is;
       }
 
-  head-part : Part ws 0 tasks_at (head_words (state_from ws))
+  head_part_lem : Part ws 0 tasks_at (head_words (state_from ws))
   unfolding state_from head_words run
-  head-part = record {
+  head_part_lem = record {
     is =
         rw (
           mark_word_lem (word_at ws marks_at 1 0) (word_low ws marks_at 1 2 marks 0 e.marked (omega arith)),
           mark_word_lem (word_at ws marks_at 1 1) (word_low ws marks_at 1 2 marks 1 e.marked (omega arith)),
         )
-        (part-run ws tasks_at 0 (omega (arith, e.enough))).is;
+        (part_run ws tasks_at 0 (omega (arith, e.enough))).is;
   }
 
   -- a column of 32 or 64 values that stand side by side
-  side-part : {A : Type 0} (f : ℕ → A) (z : A) (back : A → ℕ) (start n : ℕ) → back z ≡ 0 → start + n ≤ length ws →
+  side_part : {A : Type 0} (f : ℕ → A) (z : A) (back : A → ℕ) (start n : ℕ) → back z ≡ 0 → start + n ≤ length ws →
       ((k : ℕ) → k < n → back (f (word_at ws start 1 k)) ≡ word_at ws start 1 k) → Part ws start n (map back (taken f ws start 1 n (replicate n z)))
-  side-part f z back start n d h q =
+  side_part f z back start n d h q =
       let l = taken f ws start 1 n (replicate n z) in
-      part-list ws start n (map back l)
-      (length-map l back ∙ mapBelow-length (λ k _. f (word_at ws start 1 k)) n (replicate n z) ∙ length-replicate n z) h
+      part_list ws start n (map back l)
+      (length-map l back ∙ map_below-length (λ k _. f (word_at ws start 1 k)) n (replicate n z) ∙ length-replicate n z) h
       (λ k b.
       ap (get_or (map back l) k) (sym d) ∙ get_or-map back l k z
       ∙ value-at ws start 1 n f z back k (start + k) b (rw mul-one refl) (q k b))
 
-  words-part : (f : ℕ → ℕ) (start n : ℕ) → start + n ≤ length ws → ((k : ℕ) → k < n → f (word_at ws start 1 k) ≡ word_at ws start 1 k) →
+  words_part : (f : ℕ → ℕ) (start n : ℕ) → start + n ≤ length ws → ((k : ℕ) → k < n → f (word_at ws start 1 k) ≡ word_at ws start 1 k) →
       Part ws start n (taken f ws start 1 n (replicate n 0))
-  words-part f start n h q = rw (map-id (taken f ws start 1 n (replicate n 0))) at (side-part f 0 same start n refl h q)
+  words_part f start n h q = rw (map-id (taken f ws start 1 n (replicate n 0))) at (side_part f 0 same start n refl h q)
 
-  pub table-part : Part ws tasks_at (most_task_words + most_row_words + most_tasks) (table_words (state_from ws))
+  pub table_part : Part ws tasks_at (most_task_words + most_row_words + most_tasks) (table_words (state_from ws))
   unfolding table_words state_from
-  table-part =
+  table_part =
       let s = state_from ws in
-      part-more ws tasks_at (most_task_words + most_row_words) most_tasks (rows_of (task_row s) most_tasks ++ rows_of (connection_row s) most_rows) s.order
-      (part-more ws tasks_at most_task_words most_row_words (rows_of (task_row s) most_tasks) (rows_of (connection_row s) most_rows)
-      (part-rows ws (task_row s) tasks_at task_width most_tasks task-part)
-      (part-rows ws (connection_row s) rows_at row_width most_rows row-part))
-      (words-part (cut bytes) order_at most_tasks (omega (arith, e.enough)) (λ k h. mod-eq_of_lt (word_low ws order_at 1 most_tasks bytes k e.order h)))
+      part_more ws tasks_at (most_task_words + most_row_words) most_tasks (rows_of (task_row s) most_tasks ++ rows_of (connection_row s) most_rows) s.order
+      (part_more ws tasks_at most_task_words most_row_words (rows_of (task_row s) most_tasks) (rows_of (connection_row s) most_rows)
+      (part_rows ws (task_row s) tasks_at task_width most_tasks task_part_lem)
+      (part_rows ws (connection_row s) rows_at row_width most_rows row_part_lem))
+      (words_part (cut bytes) order_at most_tasks (omega (arith, e.enough)) (λ k h. mod-eq_of_lt (word_low ws order_at 1 most_tasks bytes k e.order h)))
 
-  moving-part : Part ws phases_at (most_tasks + most_tasks + most_tasks + most_rows + most_rows) (moving_words (state_from ws))
+  moving_part : Part ws phases_at (most_tasks + most_tasks + most_tasks + most_rows + most_rows) (moving_words (state_from ws))
   unfolding moving_words state_from
-  moving-part =
+  moving_part =
       let s = state_from ws in
-      let a = side-part task_from idle_task task_word phases_at most_tasks refl (omega (arith, e.enough))
+      let a = side_part task_from idle_task task_word phases_at most_tasks refl (omega (arith, e.enough))
       (λ k h. phase_word_lem (word_at ws phases_at 1 k) (word_low ws phases_at 1 most_tasks phases k e.tasks h)) in
-      let b = words-part same outputs_at most_tasks (omega (arith, e.enough)) (λ k _. refl) in
-      let c = words-part same dispatches_at most_tasks (omega (arith, e.enough)) (λ k _. refl) in
-      let d = words-part same buffers_at most_rows (omega (arith, e.enough)) (λ k _. refl) in
-      let i = words-part same inputs_at most_rows (omega (arith, e.enough)) (λ k _. refl) in
-      part-more ws phases_at _ _ _ _ (part-more ws phases_at _ _ _ _ (part-more ws phases_at _ _ _ _ (part-more ws phases_at _ _ _ _ a b) c) d) i
+      let b = words_part same outputs_at most_tasks (omega (arith, e.enough)) (λ k _. refl) in
+      let c = words_part same dispatches_at most_tasks (omega (arith, e.enough)) (λ k _. refl) in
+      let d = words_part same buffers_at most_rows (omega (arith, e.enough)) (λ k _. refl) in
+      let i = words_part same inputs_at most_rows (omega (arith, e.enough)) (λ k _. refl) in
+      part_more ws phases_at _ _ _ _ (part_more ws phases_at _ _ _ _ (part_more ws phases_at _ _ _ _ (part_more ws phases_at _ _ _ _ a b) c) d) i
 
 -- what is read and stored back is as it was
 pub words_back : (ws : List ℕ) → encodes ws ≡ true → stored_in ws (state_from ws) ≡ ws
 words_back ws h =
     let e = encodes-encoded ws h in
-    let w = part-more ws 0 phases_at (state_size - phases_at) _ _ (part-more ws 0 tasks_at (phases_at - tasks_at) _ _ (head-part ws e) (table-part ws e)) (moving-part ws e) in
+    let w = part_more ws 0 phases_at (state_size - phases_at) _ _ (part_more ws 0 tasks_at (phases_at - tasks_at) _ _ (head_part_lem ws e) (table_part ws e)) (moving_part ws e) in
     rw w.is (take-append-drop state_size ws)

@@ -15,6 +15,6 @@ no_state = told 0 out_of_range 0
 
 -- an answer whose parts do not run into each other in the number
 pub record Narrow (t : Told) : Type 0 where
-  pub kind-below : t.kind < 256
+  pub kind_below : t.kind < 256
   pub number_below : t.number < 256
-  pub value-below : t.value < 65536
+  pub value_below : t.value < 65536

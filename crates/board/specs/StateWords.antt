@@ -1,4 +1,4 @@
--- A state in words, and the state that words encode. The laws `state-back` and `words_back` show that they are there and back.
+-- A state in words, and the state that words encode. The laws `state_back` and `words_back` show that they are there and back.
 use Rattle.std.specs.Prelude.{Bool, false, ◌&&◌, List, [], ◌∷◌, ◌++◌, map, ℕ, ◌+◌, ◌<◌, get_or, length, drop, replicate, leb}
 use Rattle.rules.specs.Sizes.{most_tasks, most_rows, task_width, row_width}
 use Rattle.rules.specs.Views.{period, deadline, compute, sender, receiver, undelayed}

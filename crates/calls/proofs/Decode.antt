@@ -53,8 +53,8 @@ unfolding word_of
 word-sized s e = rw e
 
 module _ (s : List ℕ) (few : sized s ≡ false) where
-  pub few-digits : (1 ≤ length s) × (length s ≤ 10)
-  few-digits = let b = or_false (ltb (length s) 1) (ltb 10 (length s)) few in (ltb-false (length s) 1 b.0, ltb-false 10 (length s) b.1)
+  pub few_digits : (1 ≤ length s) × (length s ≤ 10)
+  few_digits = let b = or_false (ltb (length s) 1) (ltb 10 (length s)) few in (ltb-false (length s) 1 b.0, ltb-false 10 (length s) b.1)
 
   pub word-foreign : all_digits s ≡ false → word_of s ≡ Bad
   unfolding word_of

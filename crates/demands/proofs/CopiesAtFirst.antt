@@ -58,24 +58,24 @@ module _ (f : Ticker) (g : Completer) (completes : MeetsComplete g) (copies : Co
       ap (λ (a : Answer). step a (f.run s).state) (names s h).0
       ∙ ap (λ (z : State). step (tick_of s).answer z) (names s h).1
 
-  later-step : (s : State) → Held s → s.ticked ≡ true → f.run s ≡ names_only s
-  later-step s h k =
+  later_step : (s : State) → Held s → s.ticked ≡ true → f.run s ≡ names_only s
+  later_step s h k =
       named_step s h
       ∙ ap (λ (b : List ℕ). step (tick_of s).answer (with_words (tick_of s).state b (f.run s).state.inputs)) (copies s h k).0
       ∙ ap (λ (x : List ℕ). step (tick_of s).answer (with_words (tick_of s).state s.buffers x)) (copies s h k).1
 
-  later-runs : (cs : List Call) (m : Moment) → Held m.state → m.state.ticked ≡ true → Sent cs →
+  later_runs : (cs : List Call) (m : Moment) → Held m.state → m.state.ticked ≡ true → Sent cs →
       after_by f.run g.run m cs ≡ after_by names_only complete_of m cs
-  later-runs [] m h k t = refl
-  later-runs (tick ∷ cs) m h k t =
-      let e : f.run m.state ≡ names_only m.state = later-step m.state h k in
+  later_runs [] m h k t = refl
+  later_runs (tick ∷ cs) m h k t =
+      let e : f.run m.state ≡ names_only m.state = later_step m.state h k in
       let still : (f.run m.state).state.ticked ≡ true = ap (λ (r : Step). r.state.ticked) e ∙ tick_ticked m.state k in
-      later-runs cs (after-tick m (f.run m.state)) (f.gives m.state h) still t
+      later_runs cs (after-tick m (f.run m.state)) (f.gives m.state h) still t
       ∙ ap (λ (r : Step). after_by names_only complete_of (after-tick m r) cs) e
-  later-runs (complete w ∷ cs) m h k t =
+  later_runs (complete w ∷ cs) m h k t =
       let e : g.run m.state w ≡ complete_of m.state w = step_is _ _ (completes m.state w h t.0) in
       let still : (g.run m.state w).state.ticked ≡ true = ap (λ (r : Step). r.state.ticked) e ∙ complete_ticked m.state w k in
-      later-runs cs (after-word m w (g.run m.state w)) (g.gives m.state w h t.0) still t.1
+      later_runs cs (after-word m w (g.run m.state w)) (g.gives m.state w h t.0) still t.1
       ∙ ap (λ (r : Step). after_by names_only complete_of (after-word m w r) cs) e
 
 -- ---------------------------------------------------------------------------------------------------------------------------
@@ -117,13 +117,13 @@ module _ (f : Ticker) (g : Completer) (completes : MeetsComplete g) (copies : Co
   abbrev x : List ℕ
   x = (f.run M10).state.inputs
 
-  first-ticked : (f.run M10).state.ticked ≡ true
+  first_ticked : (f.run M10).state.ticked ≡ true
   unfolding fresh_state in_range judged delivered dispatched started_at chosen advanced ticking
-  first-ticked = ap (λ (s : State). s.ticked) (names M10 M10-held).1
+  first_ticked = ap (λ (s : State). s.ticked) (names M10 M10-held).1
 
-  is-five : (w : ℕ) → Bits 32 w → after_by f.run g.run (start M10) (tick ∷ behind w) ≡ at_five b x w
-  is-five w l =
-      later-runs f g completes copies names (behind w) (after-tick (start M10) (f.run M10)) (f.gives M10 M10-held) first-ticked (l, (omega arith, tt))
+  is_five : (w : ℕ) → Bits 32 w → after_by f.run g.run (start M10) (tick ∷ behind w) ≡ at_five b x w
+  is_five w l =
+      later_runs f g completes copies names (behind w) (after-tick (start M10) (f.run M10)) (f.gives M10 M10-held) first_ticked (l, (omega arith, tt))
       ∙ ap (λ (r : Step). after_by names_only complete_of (after-tick (start M10) r) (behind w)) (named_step f g completes copies names M10 M10-held)
 
   module _ (named : ReadsAsNamed M10 (after_by f.run g.run (start M10))) where
@@ -131,10 +131,10 @@ module _ (f : Ticker) (g : Completer) (completes : MeetsComplete g) (copies : Co
     unfolding fresh_state
     copied w l =
         let v : ℕ = input (at_five b x w).state 0 in
-        let j = subst (λ (m : Moment). JobAt M10 m 1 1 (input (at_five b x w).state)) (sym (is-five w l)) (job_five b x w) in
+        let j = subst (λ (m : Moment). JobAt M10 m 1 1 (input (at_five b x w).state)) (sym (is_five w l)) (job_five b x w) in
         let n = named (tick ∷ behind w) (l, (omega arith, tt)) 1 1 (input (at_five b x w).state) j 0 (omega arith) refl in
         sym (reads_first b x w)
-        ∙ named_word w v (subst (λ (ws : List ℕ). Named M10 0 (1 * period M10 1) ws v) (ap (λ (m : Moment). m.words 0) (is-five w l) ∙ words_five b x w) n)
+        ∙ named_word w v (subst (λ (ws : List ℕ). Named M10 0 (1 * period M10 1) ws v) (ap (λ (m : Moment). m.words 0) (is_five w l) ∙ words_five b x w) n)
 
-    pub copies-at-first-break-demand : ⊥
-    copies-at-first-break-demand = let z : ◌≡◌ {A = ℕ} 7 9 = sym (copied 7 (omega arith)) ∙ copied 9 (omega arith) in omega arith
+    pub copies_at_first_break_demand : ⊥
+    copies_at_first_break_demand = let z : ◌≡◌ {A = ℕ} 7 9 = sym (copied 7 (omega arith)) ∙ copied 9 (omega arith) in omega arith

@@ -21,32 +21,32 @@ use Rattle.rules.specs.Answers.{Told, answer_says, StepIs}
 use Rattle.rules.specs.Fresh.{FreshIs, fresh_state, start_of}
 use Rattle.rules.specs.Runs.{start, after_by, after}
 use Rattle.rules.proofs.Counting.{column-at}
-use Rattle.rules.proofs.Refusals.{lengths-of}
-use Rattle.rules.proofs.Runs.Start.{period-is, deadline-is, sender-is, receiver-is, fresh-planned}
+use Rattle.rules.proofs.Refusals.{lengths_of}
+use Rattle.rules.proofs.Runs.Start.{period-is, deadline_is, sender-is, receiver-is, fresh_planned}
 use Rattle.rules.proofs.Runs.Invariant.{Planned, start-laid}
 use Rattle.rules.proofs.Runs.Reads.{order_kept, numbered, recorded, sampled}
-use Rattle.rules.proofs.Runs.Words.{delivered-started}
+use Rattle.rules.proofs.Runs.Words.{delivered_started}
 use Rattle.rules.proofs.Runs.Twice.{two_runs}
-use Rattle.rules.proofs.Runs.Always.{always-in-range, always-settled}
-use Rattle.reader.proofs.ReadIs.{read-tables}
+use Rattle.rules.proofs.Runs.Always.{always_in_range, always_settled}
+use Rattle.reader.proofs.ReadIs.{read_tables}
 use Rattle.demands.specs.Demands.{AcceptedStart, FileStart, Tabled, Demand}
 use Rattle.demands.specs.Programs.{Held, Ticker, MeetsTick, Completer, MeetsComplete}
 use Rattle.demands.proofs.Named.{counted-named}
-use Rattle.demands.proofs.Held.{fresh-held}
-use Rattle.demands.proofs.Runs.{runs-as-ruled, demand-same}
+use Rattle.demands.proofs.Held.{fresh_held}
+use Rattle.demands.proofs.Runs.{runs_as_ruled, demand_same}
 
 -- the columns of a fresh state are those of the tables
 module _ (tw cw : List ℕ) (p : Plan) (a : Accepts tw cw p) where
-  fresh-tabled : Tabled tw cw (fresh_state tw cw p)
+  fresh_tabled : Tabled tw cw (fresh_state tw cw p)
   unfolding fresh_state
-  fresh-tabled = record {
+  fresh_tabled = record {
     count = refl;
     rows = refl;
     periods = period-is tw cw p a;
-    deadlines = deadline-is tw cw p a;
+    deadlines = deadline_is tw cw p a;
     senders = sender-is tw cw p a;
     receivers = receiver-is tw cw p a;
-    kinds = λ c l. column-at (λ k. eqb (kind cw k) 1) (rows cw) false most_rows c l (lengths-of tw cw a.sound).rows-most;
+    kinds = λ c l. column-at (λ k. eqb (kind cw k) 1) (rows cw) false most_rows c l (lengths_of tw cw a.sound).rows_most;
     multiple = a.multiple_is;
   }
 
@@ -58,12 +58,12 @@ planned-demand s pl = record {
   named = λ cs h i k x j c l e.
       let p = sampled s pl cs h i k x j c l e in
       let laid = start-laid s pl in
-      counted-named s c _ (laid.paced (sender s c) (laid.sender-in c l)).period-pos _ (x c) p.0 p.1;
+      counted-named s c _ (laid.paced (sender s c) (laid.sender_in c l)).period_pos _ (x c) p.0 p.1;
   sampled = sampled s pl;
   two_runs = two_runs s pl;
-  in_range = λ cs _. always-in-range s pl cs;
-  runner_started = λ cs _. always-settled s pl cs;
-  delivered-started = λ cs _. delivered-started s pl cs;
+  in_range = λ cs _. always_in_range s pl cs;
+  runner_started = λ cs _. always_settled s pl cs;
+  delivered_started = λ cs _. delivered_started s pl cs;
 }
 
 -- the state of an accepted start, by the verdict
@@ -77,24 +77,24 @@ module _ (tw cw : List ℕ) (r : Step) (s : AcceptedStart tw cw r) where
   abbrev p : Plan
   p = s.fresh.plan
 
-  is-fresh : Accepts tw cw p × (r.state ≡ fresh_state tw cw p)
-  is-fresh = verdict_fresh tw cw p r p.verdict s.fresh.planned s.fresh.starts s.accepted
+  is_fresh : Accepts tw cw p × (r.state ≡ fresh_state tw cw p)
+  is_fresh = verdict_fresh tw cw p r p.verdict s.fresh.planned s.fresh.starts s.accepted
 
   start-held : Held r.state
-  start-held = rw is-fresh.1 (fresh-held tw cw p is-fresh.0)
+  start-held = rw is_fresh.1 (fresh_held tw cw p is_fresh.0)
 
   pub start-tabled : Tabled tw cw r.state
-  start-tabled = rw is-fresh.1 (fresh-tabled tw cw p is-fresh.0)
+  start-tabled = rw is_fresh.1 (fresh_tabled tw cw p is_fresh.0)
 
   -- of the rules' runs
   pub demand : Demand r.state (after (start r.state))
-  demand = planned-demand r.state (rw is-fresh.1 (fresh-planned tw cw p is-fresh.0))
+  demand = planned-demand r.state (rw is_fresh.1 (fresh_planned tw cw p is_fresh.0))
 
   -- and so of the runs of any tick and completion that meet their contracts
-  pub demand-by : (f : Ticker) (g : Completer) → MeetsTick f → MeetsComplete g → Demand r.state (after_by f.run g.run (start r.state))
-  demand-by f g ticks completes =
-      demand-same r.state (after (start r.state)) (after_by f.run g.run (start r.state))
-      (λ cs h. sym (runs-as-ruled f g ticks completes cs (start r.state) start-held h)) demand
+  pub demand_by : (f : Ticker) (g : Completer) → MeetsTick f → MeetsComplete g → Demand r.state (after_by f.run g.run (start r.state))
+  demand_by f g ticks completes =
+      demand_same r.state (after (start r.state)) (after_by f.run g.run (start r.state))
+      (λ cs h. sym (runs_as_ruled f g ticks completes cs (start r.state) start-held h)) demand
 
 -- a fresh start that answers Idle is an accepted one
 idle-verdict : (tw cw : List ℕ) (p : Plan) (r : Step) (v : Verdict) → StepIs (start_of tw cw p v) r → r.answer ≡ answer.Idle → v ≡ verdict.Accepted
@@ -117,11 +117,11 @@ module _ (file : List ℕ) (r : Step) (s : FileStart file r) where
   abbrev cw : List ℕ
   cw = connection_words (contents_of file)
 
-  pub file-accepted : AcceptedStart tw cw r
-  file-accepted =
-      let a = read-tables s.read refl in
+  pub file_accepted : AcceptedStart tw cw r
+  file_accepted =
+      let a = read_tables s.read refl in
       idle-accepted tw cw r (rw (a.task_front, a.row_front) at s.fresh) s.idle
 
-  pub file-demand : (f : Ticker) (g : Completer) → MeetsTick f → MeetsComplete g →
+  pub file_demand : (f : Ticker) (g : Completer) → MeetsTick f → MeetsComplete g →
       Tabled tw cw r.state × Demand r.state (after_by f.run g.run (start r.state))
-  file-demand f g ticks completes = (start-tabled tw cw r file-accepted, demand-by tw cw r file-accepted f g ticks completes)
+  file_demand f g ticks completes = (start-tabled tw cw r file_accepted, demand_by tw cw r file_accepted f g ticks completes)

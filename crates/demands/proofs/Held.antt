@@ -24,8 +24,8 @@ use Rattle.rules.specs.Steps.{falls, delivers, delivered, released, samples, wak
 use Rattle.rules.specs.Calls.{tick_of, complete_of}
 use Rattle.rules.specs.Runs.{Call, Call.tick, Call.complete, Sent, Moment, next, after}
 use Rattle.rules.proofs.Tests.{cond_by, lt_or, eq_or}
-use Rattle.rules.proofs.Counting.{mapBelow-length, mapBelow-keeps, column-at, column-past, column-length, replicate-at}
-use Rattle.rules.proofs.Refusals.{Tables, tables-of}
+use Rattle.rules.proofs.Counting.{map_below-length, map_below-keeps, column-at, column-past, column-length, replicate_at}
+use Rattle.rules.proofs.Refusals.{Tables, tables_of}
 use Rattle.rules.proofs.Runs.Start.{multiple_high}
 use Rattle.rules.proofs.Range.{Ranged, in_range-ranged}
 use Rattle.rules.proofs.Steps.{starts, chosen-state, chosen-cycle}
@@ -44,7 +44,7 @@ module _ (places : ℕ) (ws : List ℕ) (col : Column 32 places ws) where
   at = word_at 32 ws col.1 (omega arith)
 
   mapped : (f : ℕ → ℕ → ℕ) (n : ℕ) → ((k x : ℕ) → Bits 32 x → Bits 32 (f k x)) → Column 32 places (map_below f n ws)
-  mapped f n keeps = (mapBelow-length f n ws ∙ col.0, λ k _. mapBelow-keeps (Bits 32) f keeps n ws k 0 (at k))
+  mapped f n keeps = (map_below-length f n ws ∙ col.0, λ k _. map_below-keeps (Bits 32) f keeps n ws k 0 (at k))
 
   stored : (i v : ℕ) → Bits 32 v → Column 32 places (set ws i v)
   stored i v h = (
@@ -64,7 +64,7 @@ module _ (b places : ℕ) (pos : 0 < 2 ^ b) where
   )
 
   rests : Column b places (replicate places 0)
-  rests = (length-replicate places 0, λ k _. rw (replicate-at {A = ℕ} places k 0) pos)
+  rests = (length-replicate places 0, λ k _. rw (replicate_at {A = ℕ} places k 0) pos)
 
 -- one of two
 either : (b : Bool) (x y : ℕ) → Bits 32 x → Bits 32 y → Bits 32 (cond b x y)
@@ -115,23 +115,23 @@ module _ (s : State) (h : Held s) where
   dispatched-held : Held (dispatched s)
   unfolding dispatched
   dispatched-held =
-      moved-held s _ _ _ _ _ _ _ _ h (mapBelow-length (wakes s) s.count s.tasks ∙ h.tasks) h.outputs
+      moved-held s _ _ _ _ _ _ _ _ h (map_below-length (wakes s) s.count s.tasks ∙ h.tasks) h.outputs
       (mapped most_tasks s.dispatches h.dispatches (records s) s.count (λ i t. either (released s i) s.cycle t h.cycle))
       h.buffers
       (mapped most_rows s.inputs h.inputs (samples s) s.rows
       (λ c x. either (not (undelayed s c) && released s (receiver s c)) (buffer s c) x (buffer_held c)))
       h.cycle
 
-  startedAt-held : (i : ℕ) → Held (started_at s i)
+  started_at-held : (i : ℕ) → Held (started_at s i)
   unfolding started_at
-  startedAt-held i =
+  started_at-held i =
       moved-held s _ _ _ _ _ _ _ _ h (length-set s.tasks i _ ∙ h.tasks) h.outputs h.dispatches h.buffers
       (mapped most_rows s.inputs h.inputs (takes s i) s.rows
       (λ c x. either (undelayed s c && eqb (receiver s c) i) (buffer s c) x (buffer_held c)))
       h.cycle
 
   chosen-held : Held (chosen s).state
-  chosen-held = rw (chosen-state s) (cond_by Held (starts s) (started_at s (running s)) s (λ _. startedAt-held (running s)) (λ _. h))
+  chosen-held = rw (chosen-state s) (cond_by Held (starts s) (started_at s (running s)) s (λ _. started_at-held (running s)) (λ _. h))
 
   advanced-held : Bits 32 (s.cycle + 1) → Held (advanced s)
   unfolding advanced
@@ -139,9 +139,9 @@ module _ (s : State) (h : Held s) where
       moved-held s _ _ _ _ _ _ _ _ h h.tasks h.outputs h.dispatches h.buffers h.inputs
       (either (eqb (s.cycle + 1) s.multiple) 0 (s.cycle + 1) (omega arith) l)
 
-  endedAt-held : (i w : ℕ) → Bits 32 w → Held (ended_at s i w)
+  ended_at-held : (i w : ℕ) → Bits 32 w → Held (ended_at s i w)
   unfolding ended_at
-  endedAt-held i w l =
+  ended_at-held i w l =
       moved-held s _ _ _ _ _ _ _ _ h (length-set s.tasks i _ ∙ h.tasks) (stored most_tasks s.outputs h.outputs i w l) h.dispatches
       (mapped most_rows s.buffers h.buffers (posts s i w) s.rows
       (λ c b. either (undelayed s c && eqb (sender s c) i && eqb (dispatch s (receiver s c)) (dispatch s i)) w b l))
@@ -170,7 +170,7 @@ completing-held : (s : State) (w : ℕ) → Held s → Bits 32 w → Held (compl
 unfolding completing
 completing-held s w h l =
     cond_by (λ (x : Step). Held x.state) (some_runs s) _ _
-    (λ _. chosen-held (ended_at s (running s) w) (endedAt-held s h (running s) w l)) (λ _. h)
+    (λ _. chosen-held (ended_at s (running s) w) (ended_at-held s h (running s) w l)) (λ _. h)
 
 pub complete_held : (s : State) (w : ℕ) → Held s → Bits 32 w → Held (complete_of s w).state
 complete_held s w h l =
@@ -186,10 +186,10 @@ after-held (complete w ∷ cs) m h t = after-held cs (next m (complete w)) (comp
 
 module _ (tw cw : List ℕ) (p : Plan) (a : Accepts tw cw p) where
   t : Tables tw cw
-  t = tables-of tw cw a.sound
+  t = tables_of tw cw a.sound
 
-  time-held : (f : ℕ → ℕ) → ((i : ℕ) → i < table.count tw → f i ≤ longest_period) → Column 16 most_tasks (column f (table.count tw) 0 most_tasks)
-  time-held f h = made 16 most_tasks (omega arith) f (table.count tw) t.lengths.tasks_most (λ i l. omega (arith, h i l))
+  time_held : (f : ℕ → ℕ) → ((i : ℕ) → i < table.count tw → f i ≤ longest_period) → Column 16 most_tasks (column f (table.count tw) 0 most_tasks)
+  time_held f h = made 16 most_tasks (omega arith) f (table.count tw) t.lengths.tasks_most (λ i l. omega (arith, h i l))
 
   ordered-held : Column 8 most_tasks p.order
   ordered-held = (
@@ -198,24 +198,24 @@ module _ (tw cw : List ℕ) (p : Plan) (a : Accepts tw cw p) where
         ⊎_elim (λ l. omega (arith, a.order_is.names k l, t.lengths)) (λ l. rw (a.order_past.1 k l) (omega arith)) (lt_or k (table.count tw)),
   )
 
-  pub fresh-held : Held (fresh_state tw cw p)
+  pub fresh_held : Held (fresh_state tw cw p)
   unfolding fresh_state
-  fresh-held = record {
+  fresh_held = record {
     count = omega (arith, t.lengths);
     rows = omega (arith, t.lengths);
-    periods = time-held (table.period tw) (λ i l. (t.sizes i l).period-high);
-    deadlines = time-held (table.deadline tw) (λ i l. omega (arith, t.sizes i l));
-    computes = time-held (table.compute tw) (λ i l. omega (arith, t.sizes i l));
+    periods = time_held (table.period tw) (λ i l. (t.sizes i l).period_high);
+    deadlines = time_held (table.deadline tw) (λ i l. omega (arith, t.sizes i l));
+    computes = time_held (table.compute tw) (λ i l. omega (arith, t.sizes i l));
     criticalities =
         made 8 most_tasks (omega arith) (table.criticality tw) (table.count tw) t.lengths.tasks_most
-        (λ i l. omega (arith, (t.sizes i l).criticality-high));
+        (λ i l. omega (arith, (t.sizes i l).criticality_high));
     enforced = column-length _ (table.count tw) false most_tasks;
     senders =
-        made 8 most_rows (omega arith) (table.sender cw) (table.rows cw) t.lengths.rows-most
-        (λ c l. omega (arith, (t.joins c l).sender-task, t.lengths));
+        made 8 most_rows (omega arith) (table.sender cw) (table.rows cw) t.lengths.rows_most
+        (λ c l. omega (arith, (t.joins c l).sender_task, t.lengths));
     receivers =
-        made 8 most_rows (omega arith) (table.receiver cw) (table.rows cw) t.lengths.rows-most
-        (λ c l. omega (arith, (t.joins c l).receiver-task, t.lengths));
+        made 8 most_rows (omega arith) (table.receiver cw) (table.rows cw) t.lengths.rows_most
+        (λ c l. omega (arith, (t.joins c l).receiver_task, t.lengths));
     undelayed = column-length _ (table.rows cw) false most_rows;
     order = ordered-held;
     multiple = omega (arith, multiple_high tw cw p a);

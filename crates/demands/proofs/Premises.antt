@@ -20,7 +20,7 @@ use Rattle.demands.specs.Demands.{FileStart, ReadsAsNamed}
 use Rattle.demands.specs.Programs.{Held, Ticker, MeetsTick, Completer, MeetsComplete}
 use Rattle.demands.specs.ShutOut.{CopiesAtFirstOnly, NamesTasks}
 use Rattle.demands.proofs.Held.{moved-held, tick_held, complete_held}
-use Rattle.demands.proofs.CopiesAtFirst.{with_words, names_only, copies-at-first-break-demand}
+use Rattle.demands.proofs.CopiesAtFirst.{with_words, names_only, copies_at_first_break_demand}
 use Rattle.demands.proofs.ShutOut.{M10}
 
 -- ---------------------------------------------------------------------------------------------------------------------------
@@ -87,4 +87,4 @@ pub first_only_names : NamesTasks first_only
 first_only_names s h = only_names s.ticked s
 
 pub first_only_breaks_demand : ReadsAsNamed M10 (after_by first_only.run complete_of (start M10)) → ⊥
-first_only_breaks_demand = copies-at-first-break-demand first_only ruled_complete ruled_complete_meets first_only_copies first_only_names
+first_only_breaks_demand = copies_at_first_break_demand first_only ruled_complete ruled_complete_meets first_only_copies first_only_names

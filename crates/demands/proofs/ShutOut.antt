@@ -29,7 +29,7 @@ use Rattle.rules.proofs.Answers.{answer_says-injective}
 use Rattle.rules.proofs.Session.{session, session_tasks, session_rows, session_plan, session_planned}
 use Rattle.demands.specs.Programs.{Bits, Slice, LentTables, Held, Planner, MeetsPlan, Reader, MeetsRead, Ticker, MeetsTick, Completer, MeetsComplete}
 use Rattle.demands.specs.ShutOut.{RefusesAllTables, FixesOrder, RefusesAllFiles, NamesNone, Leaves, CopiesAtFirstOnly}
-use Rattle.demands.proofs.Held.{fresh-held, tick_held, after-held}
+use Rattle.demands.proofs.Held.{fresh_held, tick_held, after-held}
 
 -- whether a program can be lent a list of words of b bits is decided by computation
 abbrev slice_of : (b : ℕ) (ws : List ℕ) → Decision (Slice b ws)
@@ -57,28 +57,28 @@ lent_m5 : LentTables tasks_m5 (undelayed 1 0)
 lent_m5 = ((slice_of 16 tasks_m5).if_true refl, (slice_of 16 (undelayed 1 0)).if_true refl)
 
 module _ (f : Planner) (meets : MeetsPlan f) where
-  plans-M2 : f tasks_m2 (delayed 0 1) ≡ plan_m2
-  plans-M2 = plan_one tasks_m2 (delayed 0 1) _ _ (meets tasks_m2 (delayed 0 1) lent_m2) (first (others all_cases)).0
+  plans_M2 : f tasks_m2 (delayed 0 1) ≡ plan_m2
+  plans_M2 = plan_one tasks_m2 (delayed 0 1) _ _ (meets tasks_m2 (delayed 0 1) lent_m2) (first (others all_cases)).0
 
-  plans-M5 : f tasks_m5 (undelayed 1 0) ≡ plan_m5
-  plans-M5 =
+  plans_M5 : f tasks_m5 (undelayed 1 0) ≡ plan_m5
+  plans_M5 =
       plan_one tasks_m5 (undelayed 1 0) _ _ (meets tasks_m5 (undelayed 1 0) lent_m5)
       (first (others (others (others (others all_cases))))).0
 
-  pub no-planner-refuses-all : RefusesAllTables f → ⊥
-  no-planner-refuses-all refuses =
+  pub no_planner_refuses_all : RefusesAllTables f → ⊥
+  no_planner_refuses_all refuses =
       let r = refuses tasks_m2 (delayed 0 1) lent_m2 in
-      let v : verdict.Accepted ≡ verdict.Refused r.0 r.1 = ap (λ (p : Plan). p.verdict) (sym plans-M2) ∙ r.2 in
+      let v : verdict.Accepted ≡ verdict.Refused r.0 r.1 = ap (λ (p : Plan). p.verdict) (sym plans_M2) ∙ r.2 in
       let z : ◌≡◌ {A = ℕ} 0 1 = cc in
       omega arith
 
-  pub no-planner-fixes-order : FixesOrder f → ⊥
-  no-planner-fixes-order (order, fixes) =
+  pub no_planner_fixes_order : FixesOrder f → ⊥
+  no_planner_fixes_order (order, fixes) =
       let a : plan_m2.order ≡ plan_m5.order =
-      ap (λ (p : Plan). p.order) (sym plans-M2)
-      ∙ fixes tasks_m2 (delayed 0 1) lent_m2 (ap (λ (p : Plan). p.verdict) plans-M2)
-      ∙ sym (fixes tasks_m5 (undelayed 1 0) lent_m5 (ap (λ (p : Plan). p.verdict) plans-M5))
-      ∙ ap (λ (p : Plan). p.order) plans-M5 in
+      ap (λ (p : Plan). p.order) (sym plans_M2)
+      ∙ fixes tasks_m2 (delayed 0 1) lent_m2 (ap (λ (p : Plan). p.verdict) plans_M2)
+      ∙ sym (fixes tasks_m5 (undelayed 1 0) lent_m5 (ap (λ (p : Plan). p.verdict) plans_M5))
+      ∙ ap (λ (p : Plan). p.order) plans_M5 in
       let z : ◌≡◌ {A = ℕ} 0 1 = ap (λ (l : List ℕ). get_or l 0 0) a in
       omega arith
 
@@ -110,7 +110,7 @@ names-one : (a : Answer) (i : ℕ) → NamesNone a → answer_says a ≡ told 1 
 names-one a i n e = n i (answer_says-injective a (answer.Running i) e)
 
 session_held : Held session
-session_held = fresh-held session_tasks session_rows session_plan session_planned
+session_held = fresh_held session_tasks session_rows session_plan session_planned
 
 first_tick : answer_says (tick_of session).answer ≡ told 1 0 0
 unfolding fresh_state in_range judged delivered dispatched started_at chosen advanced ticking
@@ -177,7 +177,7 @@ M10 = fresh_state tasks_m10 (delayed 0 1) plan_m10
 
 pub M10-held : Held M10
 M10-held =
-    fresh-held tasks_m10 (delayed 0 1) plan_m10
+    fresh_held tasks_m10 (delayed 0 1) plan_m10
     (first (others (others (others (others (others (others (others (others (others all_cases)))))))))).0
 
 abbrev to_five : List Call

@@ -79,4 +79,4 @@ pub record Demand (s : State) (run : Run) : Type 0 where
   pub runner_started : (cs : List Call) → Sent cs → (run cs).state.halted ≡ false → (i : ℕ) → Runs (run cs).state i →
       started (phase_of (run cs).state i) ≡ true
   -- a job that delivers was started
-  pub delivered-started : (cs : List Call) → Sent cs → (i k : ℕ) → k < length ((run cs).words i) → (x : ℕ → ℕ) × Job s run cs i k x
+  pub delivered_started : (cs : List Call) → Sent cs → (i k : ℕ) → k < length ((run cs).words i) → (x : ℕ → ℕ) × Job s run cs i k x

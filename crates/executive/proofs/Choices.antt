@@ -46,8 +46,8 @@ module _ (tasks : List Task) (order : List ℕ) (n : ℕ) (c : Choice) (h : Choo
   waiting-below names e = chosen-below names (waiting-some e)
 
 module _ (s : State) (c : Choice) (h : Chooses s.tasks s.order s.count c) where
-  answer-is : cond c.some (answer.Running c.task) answer.Idle ≡ cond (some_runs s) (answer.Running (running s)) answer.Idle
-  answer-is = by_test c.some (λ e. rw (h.task_is e, h.some_is) refl) (λ e. rw (e, sym h.some_is ∙ e) refl)
+  answer_is : cond c.some (answer.Running c.task) answer.Idle ≡ cond (some_runs s) (answer.Running (running s)) answer.Idle
+  answer_is = by_test c.some (λ e. rw (h.task_is e, h.some_is) refl) (λ e. rw (e, sym h.some_is ∙ e) refl)
 
   taken_is : (tasks : List Task) (inputs : List ℕ) → tasks ≡ set s.tasks c.task (task_in phase.Started) →
       inputs ≡ map_below (takes_in s.receivers s.undelayed s.buffers c.task) s.rows s.inputs →
@@ -55,12 +55,12 @@ module _ (s : State) (c : Choice) (h : Chooses s.tasks s.order s.count c) where
   unfolding started_at
   taken_is tasks inputs t i q = rw (t, i) (ap (started_at s) (h.task_is q))
 
-  state-is : (tasks : List Task) (inputs : List ℕ) → Came s c tasks inputs → after s tasks inputs ≡ cond (starts s) (started_at s (running s)) s
-  state-is tasks inputs came =
+  state_is : (tasks : List Task) (inputs : List ℕ) → Came s c tasks inputs → after s tasks inputs ≡ cond (starts s) (started_at s (running s)) s
+  state_is tasks inputs came =
       ⊎_elim
       (λ w. taken_is tasks inputs w.2 w.1 (waiting-some s.tasks s.order s.count c h w.0) ∙ sym (cond_true (starts s) _ _ (sym h.waits_is ∙ w.0)))
       (λ w. rw (w.2, w.1) (sym (cond_false (starts s) _ _ (sym h.waits_is ∙ w.0)))) came
 
   pub chosen_by : (tasks : List Task) (inputs : List ℕ) (a : Answer) → answer_says a ≡ choice_says c →
       Came s c tasks inputs → step a (after s tasks inputs) ≡ chosen s
-  chosen_by tasks inputs a e came = rw (answer_says-injective a _ e ∙ answer-is, state-is tasks inputs came) (sym (chosen_is s))
+  chosen_by tasks inputs a e came = rw (answer_says-injective a _ e ∙ answer_is, state_is tasks inputs came) (sym (chosen_is s))

@@ -33,11 +33,11 @@ pub number_of : (s : State) (k : ℕ) →
 number_of s k e = e ∙ ap (λ (b : Bool). refusal_of b s.halted) (sym (in_range-parts s))
 
 module _ (s : State) (k : ℕ) (e : k ≡ refusal_of (in_range s) s.halted) where
-  pub in-range-by : k ≤ 0 → in_range s ≡ true
-  in-range-by h = (none (in_range s) s.halted k e h).0
+  pub in_range_by : k ≤ 0 → in_range s ≡ true
+  in_range_by h = (none (in_range s) s.halted k e h).0
 
-  pub not-halted-by : k ≤ 0 → s.halted ≡ false
-  not-halted-by h = (none (in_range s) s.halted k e h).1
+  pub not_halted_by : k ≤ 0 → s.halted ≡ false
+  not_halted_by h = (none (in_range s) s.halted k e h).1
 
   module _ (carried : Step) where
     pub refused-by : 0 < k → step (answer.Refused k 0) s ≡ judged (in_range s) s.halted s carried

@@ -13,7 +13,7 @@ use lib.Dec.{eqb, ltb}
 use borrow.Author.Tests.{eqb-true, eqb-false, lt-ltb, le-ltb}
 use Rattle.rules.specs.Counting.{first_of, map_below}
 use Rattle.rules.proofs.Tests.{by_test, true_false, lt_or}
-use Rattle.rules.proofs.Counting.{first_of-hit, first_of-before, mapBelow-at}
+use Rattle.rules.proofs.Counting.{first_of-hit, first_of-before, map_below-at}
 use Rattle.executive.specs.Marks.{any_below, marked, puts}
 use Rattle.executive.specs.Range.{names_in}
 
@@ -105,4 +105,4 @@ Tells marks p n = (i : ℕ) → i < n → marked marks i ≡ p i
 
 pub puts-tells : (p : ℕ → Bool) (n : ℕ) (blank marks : List Bool) → n ≤ length blank → marks ≡ map_below (puts p) n blank → Tells marks p n
 puts-tells p n blank marks l e i h =
-    ap (λ (m : List Bool). marked m i) e ∙ mapBelow-at (puts p) n blank i false h (omega arith)
+    ap (λ (m : List Bool). marked m i) e ∙ map_below-at (puts p) n blank i false h (omega arith)

@@ -32,7 +32,7 @@ pub record TimesFit (periods deadlines : List ℕ) (n : ℕ) : Type 0 where
 -- the marks of all tasks, and whether there is one of each kind
 pub record Marks (periods deadlines : List ℕ) (n : ℕ) (ticked : Bool) (t : ℕ) (due₀ released₀ due released : List Bool) (r : Falls) : Type 0 where
   pub due_are : due ≡ map_below (puts (due_in periods deadlines ticked t)) n due₀
-  pub released-are : released ≡ map_below (puts (released_in periods t)) n released₀
+  pub released_are : released ≡ map_below (puts (released_in periods t)) n released₀
   pub some_due : r.due ≡ any_below (due_in periods deadlines ticked t) n
   pub some_released : r.released ≡ any_below (released_in periods t) n
 

@@ -39,36 +39,36 @@ planned z n m periods deadlines computes senders receivers undelayed order u = r
 
 -- step 4 on the tasks and the inputs
 module _ (n m : ℕ) (receivers : List ℕ) (undelayed : List Bool) (order : List ℕ) (buffers : List ℕ) where
-  abbrev pub toChoose : State → List Task → List ℕ → State
-  toChoose z tasks inputs =
+  abbrev pub to_choose : State → List Task → List ℕ → State
+  to_choose z tasks inputs =
       moved (planned z n m z.periods z.deadlines z.computes z.senders receivers undelayed order z.multiple) tasks z.outputs
       z.dispatches buffers inputs z.cycle z.ticked z.halted
 
   abbrev pub Runs : List Task → List ℕ → List ℕ → Chosen → Type 0
-  Runs tasks inputs inputs' r = (z : State) → step r.answer (toChoose z r.tasks inputs') ≡ chosen (toChoose z tasks inputs)
+  Runs tasks inputs inputs' r = (z : State) → step r.answer (to_choose z r.tasks inputs') ≡ chosen (to_choose z tasks inputs)
 
 -- completion of a state in range that is not halted, on the tasks, the outputs, the buffers and the inputs
 module _ (n m : ℕ) (senders receivers : List ℕ) (undelayed : List Bool) (order dispatches : List ℕ) where
-  abbrev pub toComplete : State → List Task → List ℕ → List ℕ → List ℕ → State
-  toComplete z tasks outputs buffers inputs =
+  abbrev pub to_complete : State → List Task → List ℕ → List ℕ → List ℕ → State
+  to_complete z tasks outputs buffers inputs =
       moved (planned z n m z.periods z.deadlines z.computes senders receivers undelayed order z.multiple) tasks outputs dispatches buffers
       inputs z.cycle z.ticked z.halted
 
   abbrev pub Completes : List Task → List ℕ → List ℕ → List ℕ → List ℕ → List ℕ → List ℕ → ℕ → Chosen → Type 0
   Completes tasks outputs buffers inputs outputs' buffers' inputs' w r =
-      (z : State) → step r.answer (toComplete z r.tasks outputs' buffers' inputs') ≡ completing (toComplete z tasks outputs buffers inputs) w
+      (z : State) → step r.answer (to_complete z r.tasks outputs' buffers' inputs') ≡ completing (to_complete z tasks outputs buffers inputs) w
 
 -- a tick of such a state, on all that it changes
 module _ (n m u : ℕ) (periods deadlines senders receivers : List ℕ) (undelayed : List Bool) (order outputs : List ℕ) where
-  abbrev pub toTick : State → List Task → List ℕ → List ℕ → List ℕ → ℕ → Bool → Bool → State
-  toTick z tasks dispatches buffers inputs cycle ticked halted =
+  abbrev pub to_tick : State → List Task → List ℕ → List ℕ → List ℕ → ℕ → Bool → Bool → State
+  to_tick z tasks dispatches buffers inputs cycle ticked halted =
       moved (planned z n m periods deadlines z.computes senders receivers undelayed order u) tasks outputs dispatches buffers inputs cycle ticked
       halted
 
   abbrev pub Ticks : List Task → List ℕ → List ℕ → List ℕ → ℕ → Bool → List ℕ → List ℕ → List ℕ → Ticked → Type 0
   Ticks tasks dispatches buffers inputs t ticked dispatches' buffers' inputs' r =
-      (z : State) → step r.answer (toTick z r.tasks dispatches' buffers' inputs' r.cycle r.ticked r.halted)
-      ≡ ticking (toTick z tasks dispatches buffers inputs t ticked false)
+      (z : State) → step r.answer (to_tick z r.tasks dispatches' buffers' inputs' r.cycle r.ticked r.halted)
+      ≡ ticking (to_tick z tasks dispatches buffers inputs t ticked false)
 
 -- what a tick asks of the columns: the times, the rows, the order and the cycle are in range
 pub record Ranges (n m u t : ℕ) (periods deadlines senders receivers order : List ℕ) : Type 0 where

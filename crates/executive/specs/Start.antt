@@ -27,13 +27,13 @@ pub record TaskColumnsAre (tw : List ℕ) (n : ℕ) (r : TaskColumns) : Type 0 w
   pub deadlines_are : r.deadlines ≡ column (deadline tw) n 0 most_tasks
   pub computes_are : r.computes ≡ column (compute tw) n 0 most_tasks
   pub criticalities_are : r.criticalities ≡ column (criticality tw) n 0 most_tasks
-  pub enforced-are : r.enforced ≡ column (enforced_in tw) n false most_tasks
+  pub enforced_are : r.enforced ≡ column (enforced_in tw) n false most_tasks
 
 -- the columns of m rows
 pub record RowColumnsAre (cw : List ℕ) (m : ℕ) (r : RowColumns) : Type 0 where
   pub senders_are : r.senders ≡ column (sender cw) m 0 most_rows
   pub receivers_are : r.receivers ≡ column (receiver cw) m 0 most_rows
-  pub undelayed-are : r.undelayed ≡ column (undelayed_in cw) m false most_rows
+  pub undelayed_are : r.undelayed ≡ column (undelayed_in cw) m false most_rows
 
 -- tables that fit the columns
 pub record Tabled (tw cw : List ℕ) : Type 0 where

@@ -14,8 +14,8 @@ use Rattle.rules.specs.Tables.{count, deadline, criticality}
 use Rattle.rules.specs.Chains.{Link, Chain, Acyclic, Longest}
 use Rattle.rules.specs.Order.{IsDeadline, IsCriticality}
 use Rattle.rules.proofs.Tests.{by_test, lt_or, and_left, and_right, and_both, true_false, cond_true, cond_false}
-use Rattle.rules.proofs.Chains.{Upto, chain-ends, upto-longest, upto-reached, longest-one}
-use Rattle.rules.proofs.Refusals.{Tables, link-within}
+use Rattle.rules.proofs.Chains.{Upto, chain_ends, upto_longest, upto_reached, longest_one}
+use Rattle.rules.proofs.Refusals.{Tables, link_within}
 use Rattle.planner.specs.Rounds.{Square}
 use Rattle.planner.specs.Internal.{lower, least_of, between, deadline_over, criticality_over, Workable}
 
@@ -52,28 +52,28 @@ module _ (best chain x : ℕ) where
 
 module _ (own : ℕ) (chain f : ℕ → ℕ) where
   -- a turn, and the end
-  pub least-turn :
+  pub least_turn :
       (j best b x r : ℕ) → best ≡ least_of own chain f j → b ≡ chain j → x ≡ f j → r ≡ lower best b x
       → r ≡ least_of own chain f (j + 1)
-  least-turn j best b x r e eb ex er = rw (add-one, er, e, eb, ex)
+  least_turn j best b x r e eb ex er = rw (add-one, er, e, eb, ex)
 
-  pub least-end : (n j best : ℕ) → j ≤ n → n ≤ j → best ≡ least_of own chain f j → best ≡ least_of own chain f n
-  least-end n j best a z e = let q : j ≡ n = omega arith in rw q at e
+  pub least_end : (n j best : ℕ) → j ≤ n → n ≤ j → best ≡ least_of own chain f j → best ≡ least_of own chain f n
+  least_end n j best a z e = let q : j ≡ n = omega arith in rw q at e
 
-  pub least-low : (n : ℕ) → least_of own chain f n ≤ own
-  least-low zero = omega arith
-  least-low (suc n) = omega (arith, least-low n, lower-low (least_of own chain f n) (chain n) (f n))
+  pub least_low : (n : ℕ) → least_of own chain f n ≤ own
+  least_low zero = omega arith
+  least_low (suc n) = omega (arith, least_low n, lower-low (least_of own chain f n) (chain n) (f n))
 
-  least-bound : (n j : ℕ) → j < n → 0 < chain j → least_of own chain f n ≤ f j
-  least-bound zero j h p = absurd (omega arith)
-  least-bound (suc n) j h p =
-      ⊎_elim (λ lt. omega (arith, least-bound n j lt p, lower-low (least_of own chain f n) (chain n) (f n)))
+  least_bound : (n j : ℕ) → j < n → 0 < chain j → least_of own chain f n ≤ f j
+  least_bound zero j h p = absurd (omega arith)
+  least_bound (suc n) j h p =
+      ⊎_elim (λ lt. omega (arith, least_bound n j lt p, lower-low (least_of own chain f n) (chain n) (f n)))
       (λ ge. let e : j ≡ n = omega arith in rw e (lower-bound (least_of own chain f n) (chain n) (f n) (rw e at p))) (lt_or j n)
 
-  least-is : (n : ℕ) → (least_of own chain f n ≡ own) ⊎ ((j : ℕ) × (j < n) × (0 < chain j) × (least_of own chain f n ≡ f j))
-  least-is zero = inl refl
-  least-is (suc n) =
-      ⊎_elim (λ same. ⊎_elim (λ e. inl (same ∙ e)) (λ w. inr (w.0, omega (arith, w.1), w.2, same ∙ w.3)) (least-is n))
+  least_is : (n : ℕ) → (least_of own chain f n ≡ own) ⊎ ((j : ℕ) × (j < n) × (0 < chain j) × (least_of own chain f n ≡ f j))
+  least_is zero = inl refl
+  least_is (suc n) =
+      ⊎_elim (λ same. ⊎_elim (λ e. inl (same ∙ e)) (λ w. inr (w.0, omega (arith, w.1), w.2, same ∙ w.3)) (least_is n))
       (λ w. inr (n, omega arith, w.0, w.1)) (lower-is (least_of own chain f n) (chain n) (f n))
 
 -- ---------------------------------------------------------------------------------------------------------------------------
@@ -91,21 +91,21 @@ module _ (tw cw : List ℕ) (ts : Tables tw cw) (sq : List (List ℕ)) (s : Squa
   }
 
   ends : (i j k : ℕ) → 0 < k → Chain (Link cw) k i j → j < count tw
-  ends i j k = chain-ends (Link cw) (count tw) ts.lengths.some (link-within tw cw ts) k i j
+  ends i j k = chain_ends (Link cw) (count tw) ts.lengths.some (link_within tw cw ts) k i j
 
   module _ (free : Acyclic (Link cw)) (i : ℕ) (h : i < count tw) where
     long : (j : ℕ) → j < count tw → Longest (Link cw) i j (between sq i j)
-    long j g = upto-longest (Link cw) (count tw) ts.lengths.some (link-within tw cw ts) free i j _ (at i j h g)
+    long j g = upto_longest (Link cw) (count tw) ts.lengths.some (link_within tw cw ts) free i j _ (at i j h g)
 
     pub deadline-right : IsDeadline tw cw i (deadline_over tw sq i (count tw))
     deadline-right = record {
-      own = least-low (deadline tw i * parts) (between sq i) less (count tw);
+      own = least_low (deadline tw i * parts) (between sq i) less (count tw);
       all = λ j b p l.
           let g = ends i j b p (l.is p) in
-          let e = longest-one (Link cw) i j b (between sq i j) l (long j g) in
-          rw e (least-bound (deadline tw i * parts) (between sq i) less (count tw) j g (omega (arith, e)));
+          let e = longest_one (Link cw) i j b (between sq i j) l (long j g) in
+          rw e (least_bound (deadline tw i * parts) (between sq i) less (count tw) j g (omega (arith, e)));
       is = ⊎_elim inl (λ w. inr (w.0, between sq i w.0, w.2, long w.0 w.1, w.3))
-          (least-is (deadline tw i * parts) (between sq i) less (count tw));
+          (least_is (deadline tw i * parts) (between sq i) less (count tw));
     }
       where
         less : ℕ → ℕ
@@ -113,11 +113,11 @@ module _ (tw cw : List ℕ) (ts : Tables tw cw) (sq : List (List ℕ)) (s : Squa
 
     pub criticality-right : IsCriticality tw cw i (criticality_over tw sq i (count tw))
     criticality-right = record {
-      own = least-low (criticality tw i) (between sq i) (criticality tw) (count tw);
+      own = least_low (criticality tw i) (between sq i) (criticality tw) (count tw);
       all = λ j r.
           let g = ends i j r.0 r.1 r.2 in
-          least-bound (criticality tw i) (between sq i) (criticality tw) (count tw) j g
-          (upto-reached (Link cw) (count tw) ts.lengths.some (link-within tw cw ts) i j _ (at i j h g) r);
+          least_bound (criticality tw i) (between sq i) (criticality tw) (count tw) j g
+          (upto_reached (Link cw) (count tw) ts.lengths.some (link_within tw cw ts) i j _ (at i j h g) r);
       is = ⊎_elim inl (λ w. inr (w.0, (between sq i w.0, w.2, (at i w.0 h w.1).is w.2), w.3))
-          (least-is (criticality tw i) (between sq i) (criticality tw) (count tw));
+          (least_is (criticality tw i) (between sq i) (criticality tw) (count tw));
     }

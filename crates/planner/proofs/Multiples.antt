@@ -32,8 +32,8 @@ trying_first a b h = record {
 }
 
 module _ (a b t : ℕ) (so : Trying a b t) where
-  pub trying-more : t ≤ most_multiple → (t % b ≡ 0 → ⊥) → Trying a b (t + a)
-  trying-more h miss = record {
+  pub trying_more : t ≤ most_multiple → (t % b ≡ 0 → ⊥) → Trying a b (t + a)
+  trying_more h miss = record {
     some = omega (arith, so.some);
     low = omega arith;
     multiple = dvd-add a so.multiple (dvd_refl a);
@@ -43,15 +43,15 @@ module _ (a b t : ℕ) (so : Trying a b t) where
         (lt_or e t);
   }
 
-  pub trying-found : t ≤ most_multiple → t % b ≡ 0 → Meet a b t
-  trying-found h e = record {
+  pub trying_found : t ≤ most_multiple → t % b ≡ 0 → Meet a b t
+  trying_found h e = record {
     small = h;
     is = λ p. (so.multiple, dvd_of_mod-eq-zero b e, so.none);
     none = λ z. absurd (omega (arith, so.some));
   }
 
-  pub trying-none : most_multiple < t → Meet a b 0
-  trying-none h = record { small = omega arith; is = λ p. absurd (omega arith); none = λ z e p q d x. so.none e p (omega arith) d x }
+  pub trying_none : most_multiple < t → Meet a b 0
+  trying_none h = record { small = omega arith; is = λ p. absurd (omega arith); none = λ z e p q d x. so.none e p (omega arith) d x }
 
 pub meet_sym : (a b r : ℕ) → Meet a b r → Meet b a r
 meet_sym a b r m = record {
@@ -76,8 +76,8 @@ module _ (tw : List ℕ) (i l b t : ℕ) (eb : b ≡ period tw i) (so : Multiple
   both : (e : ℕ) → ((q : ℕ) → q < i + 1 → period tw q ∣ e) → (l ∣ e) × (b ∣ e)
   both e c = (so.all e (λ q h. c q (omega arith)), rw eb (c i (omega arith)))
 
-  pub multiple-more : 0 < t → MultipleSoFar tw (i + 1) t
-  multiple-more h =
+  pub multiple_more : 0 < t → MultipleSoFar tw (i + 1) t
+  multiple_more h =
       let w = m.is h in
       record {
         some = h;
@@ -90,8 +90,8 @@ module _ (tw : List ℕ) (i l b t : ℕ) (eb : b ≡ period tw i) (so : Multiple
             (λ z. dvd_of_mod-eq-zero t (omega arith)) (lt_or 0 (e % t));
       }
 
-  pub multiple-over : i < count tw → t ≡ 0 → Multiple tw 0
-  multiple-over h z = record {
+  pub multiple_over : i < count tw → t ≡ 0 → Multiple tw 0
+  multiple_over h z = record {
     small = omega arith;
     is = λ p. absurd (omega arith);
     none = λ y e p q c. let d = both e (λ k u. c k (omega arith)) in m.none z e p q d.0 d.1;

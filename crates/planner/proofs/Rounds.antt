@@ -18,7 +18,7 @@ use Rattle.rules.specs.Tables.{rows, sender, receiver, kind}
 use Rattle.rules.specs.Chains.{Link, Chain}
 use Rattle.rules.specs.Counting.{all_below, map_below}
 use Rattle.rules.proofs.Tests.{lt_or, by_test, true_false, false_true, and_left, and_right, and_both}
-use Rattle.rules.proofs.Counting.{all_below-at, mapBelow-at, mapBelow-length, replicate-at}
+use Rattle.rules.proofs.Counting.{all_below-at, map_below-at, map_below-length, replicate_at}
 use Rattle.rules.proofs.Chains.{Upto}
 use Rattle.planner.specs.Places.{row_of}
 use Rattle.planner.specs.declared.places.Row.{Row}
@@ -37,7 +37,7 @@ module _ (cw : List ℕ) (marks : List Bool) where
   pub step-none : StepSoFar cw marks 0 (replicate most_tasks false)
   step-none = record {
     long = refl;
-    sound = λ j e. absurd (false_true (sym (replicate-at most_tasks j false) ∙ e));
+    sound = λ j e. absurd (false_true (sym (replicate_at most_tasks j false) ∙ e));
     complete = λ q h x y. absurd (omega arith);
   }
 
@@ -103,13 +103,13 @@ pub record Rounds (E : ℕ → ℕ → Type 0) (i k : ℕ) (marks : List Bool) (
   pub upto : (j : ℕ) → j < most_tasks → Upto E k i j (get_or best j 0)
 
 module _ (E : ℕ → ℕ → Type 0) (i : ℕ) where
-  pub rounds-none : i < most_tasks → Rounds E i 0 (set (replicate most_tasks false) i true) (replicate most_tasks 0)
-  rounds-none h = record {
+  pub rounds_none : i < most_tasks → Rounds E i 0 (set (replicate most_tasks false) i true) (replicate most_tasks 0)
+  rounds_none h = record {
     long = refl;
-    sound = λ j e. ⊎_elim (λ w. sym w.0) (λ w. absurd (false_true (sym (replicate-at most_tasks j false) ∙ sym w.1 ∙ e)))
+    sound = λ j e. ⊎_elim (λ w. sym w.0) (λ w. absurd (false_true (sym (replicate_at most_tasks j false) ∙ sym w.1 ∙ e)))
         (stored_at (replicate most_tasks false) i j true false h);
     complete = λ j e. rw (← e) (get_or-set_same (replicate most_tasks false) i true false h);
-    upto = λ j g. rw (replicate-at {A = ℕ} most_tasks j 0)
+    upto = λ j g. rw (replicate_at {A = ℕ} most_tasks j 0)
         (record { within = omega arith; is = λ p. absurd (omega arith); most = λ l p q. absurd (omega arith) });
   }
 
@@ -124,10 +124,10 @@ module _ (E : ℕ → ℕ → Type 0) (i : ℕ) where
       complete j c = let d : Chain E (suc k) i j = rw add-one at c in st.complete d.0 j (so.complete d.0 d.1) d.2
 
       at : (j : ℕ) → j < most_tasks → get_or more j 0 ≡ noted next (k + 1) j (get_or best j 0)
-      at j h = rw nt (mapBelow-at (noted next (k + 1)) 32 best j 0 h (omega (arith, so.long)))
+      at j h = rw nt (map_below-at (noted next (k + 1)) 32 best j 0 h (omega (arith, so.long)))
 
-      pub rounds-more : Rounds E i (k + 1) next more
-      rounds-more = record { long = ap length nt ∙ mapBelow-length (noted next (k + 1)) 32 best ∙ so.long; sound = sound; complete = complete; upto = upto }
+      pub rounds_more : Rounds E i (k + 1) next more
+      rounds_more = record { long = ap length nt ∙ map_below-length (noted next (k + 1)) 32 best ∙ so.long; sound = sound; complete = complete; upto = upto }
         where
           upto : (j : ℕ) → j < most_tasks → Upto E (k + 1) i j (get_or more j 0)
           upto j h =
@@ -159,8 +159,8 @@ module _ (E : ℕ → ℕ → Type 0) (i : ℕ) where
           true_false (sym on ∙ not-true (get_or next j false) (all_below-at (unmarked next) most_tasks j none (ends c.0 j c.2))))
           (lt_or k l)
 
-      pub rounds-over : (n j : ℕ) → k ≤ n → j < most_tasks → Upto E n i j (get_or best j 0)
-      rounds-over n j h g =
+      pub rounds_over : (n j : ℕ) → k ≤ n → j < most_tasks → Upto E n i j (get_or best j 0)
+      rounds_over n j h g =
           let u = so.upto j g in
           record {
             within = omega (arith, u.within);

@@ -20,9 +20,9 @@ use Rattle.rules.specs.declared.Verdict.{Verdict}
 use Rattle.rules.specs.declared.Verdict.TheVariants as verdict
 use Rattle.rules.proofs.Answers.{verdict_says-injective}
 use Rattle.rules.proofs.Deciding.{Decision, lt, equal, fails, either, restated}
-use Rattle.rules.proofs.Counting.{replicate-at, column-at, column-past, column-length}
-use Rattle.rules.proofs.Chains.{Upto, upto-reached, upto-reaches}
-use Rattle.rules.proofs.Refusals.{NoneUnder, Tables, none_more, none-under-one, none_at_all, refused-whole, first-refused, first-passed, tables-of, link-within, no-circle}
+use Rattle.rules.proofs.Counting.{replicate_at, column-at, column-past, column-length}
+use Rattle.rules.proofs.Chains.{Upto, upto_reached, upto_reaches}
+use Rattle.rules.proofs.Refusals.{NoneUnder, Tables, none_more, none_under_one, none_at_all, refused-whole, first_refused, first_passed, tables_of, link_within, no_circle}
 use Rattle.planner.specs.Places.{stands, Readable}
 use Rattle.planner.specs.Rounds.{Named, Square, circles}
 use Rattle.planner.specs.Multiples.{Multiple}
@@ -36,14 +36,14 @@ module _ (tw cw : List ℕ) where
   -- -------------------------------------------------------------------------------------------------------------------------
   -- A refusal
 
-  pub plan-refused : (number place : ℕ) (r : Plan) → Refusal tw cw number place → r ≡ refused_plan number place → PlanIs tw cw r
-  plan-refused number place r because e =
+  pub plan_refused : (number place : ℕ) (r : Plan) → Refusal tw cw number place → r ≡ refused_plan number place → PlanIs tw cw r
+  plan_refused number place r because e =
       subst (PlanIs tw cw) (sym e)
       (record {
         because = because;
-        order_none = (refl, λ p h. replicate-at {A = ℕ} most_tasks p 0);
-        deadlines_none = (refl, λ p h. replicate-at {A = ℕ} most_tasks p 0);
-        criticalities_none = (refl, λ p h. replicate-at {A = ℕ} most_tasks p 0);
+        order_none = (refl, λ p h. replicate_at {A = ℕ} most_tasks p 0);
+        deadlines_none = (refl, λ p h. replicate_at {A = ℕ} most_tasks p 0);
+        criticalities_none = (refl, λ p h. replicate_at {A = ℕ} most_tasks p 0);
         multiple_none = refl;
       })
 
@@ -53,47 +53,47 @@ module _ (tw cw : List ℕ) where
       restated (⊎_elim (⊎_elim inl (λ x. inr (inl x))) (λ x. inr (inr x))) (⊎_elim (λ x. inl (inl x)) (⊎_elim (λ x. inl (inr x)) inr))
       (either (either (fails (equal (length tw % task_width) 0)) (equal (length tw) 0)) (lt most_task_words (length tw)))
 
-  abbrev rowWords : Decision ((length cw % row_width ≡ 0 → ⊥) ⊎ (most_row_words < length cw))
-  rowWords = either (fails (equal (length cw % row_width) 0)) (lt most_row_words (length cw))
+  abbrev row_words : Decision ((length cw % row_width ≡ 0 → ⊥) ⊎ (most_row_words < length cw))
+  row_words = either (fails (equal (length cw % row_width) 0)) (lt most_row_words (length cw))
 
-  pub task-words-refused : task_words.test ≡ true → Refusal tw cw 1 0
-  task-words-refused t = refused-whole tw cw 1 (none-under-one tw cw) (refl, task_words.if_true t)
+  pub task_words_refused : task_words.test ≡ true → Refusal tw cw 1 0
+  task_words_refused t = refused-whole tw cw 1 (none_under_one tw cw) (refl, task_words.if_true t)
 
-  pub task-words-passed : task_words.test ≡ false → NoneUnder tw cw 2
-  task-words-passed f = none_more tw cw 1 (none-under-one tw cw) (λ q b. task_words.if_false f b.1)
+  pub task_words_passed : task_words.test ≡ false → NoneUnder tw cw 2
+  task_words_passed f = none_more tw cw 1 (none_under_one tw cw) (λ q b. task_words.if_false f b.1)
 
-  pub row-words-refused : NoneUnder tw cw 2 → rowWords.test ≡ true → Refusal tw cw 2 0
-  row-words-refused none t = refused-whole tw cw 2 none (refl, rowWords.if_true t)
+  pub row_words_refused : NoneUnder tw cw 2 → row_words.test ≡ true → Refusal tw cw 2 0
+  row_words_refused none t = refused-whole tw cw 2 none (refl, row_words.if_true t)
 
-  pub row-words-passed : NoneUnder tw cw 2 → rowWords.test ≡ false → NoneUnder tw cw 3
-  row-words-passed none f = none_more tw cw 2 none (λ q b. rowWords.if_false f b.1)
+  pub row_words_passed : NoneUnder tw cw 2 → row_words.test ≡ false → NoneUnder tw cw 3
+  row_words_passed none f = none_more tw cw 2 none (λ q b. row_words.if_false f b.1)
 
   -- by a test of each place: 3, 4, 5 and 7
   module _ (number n p : ℕ) (told : Told tw cw number n) (none : NoneUnder tw cw number) (e : p ≡ first_of (stands tw cw number) n) where
-    pub place-refused : p < n → Refusal tw cw number p
-    place-refused h = rw e (first-refused tw cw number n (stands tw cw number) told.says told.said none (rw e at h))
+    pub place_refused : p < n → Refusal tw cw number p
+    place_refused h = rw e (first_refused tw cw number n (stands tw cw number) told.says told.said none (rw e at h))
 
-    pub place-passed : n ≤ p → NoneUnder tw cw (suc number)
-    place-passed h = first-passed tw cw number n (stands tw cw number) told.says told.said none (rw e at h)
+    pub place_passed : n ≤ p → NoneUnder tw cw (suc number)
+    place_passed h = first_passed tw cw number n (stands tw cw number) told.says told.said none (rw e at h)
 
-  pub task-readable : (p : ℕ) → p < count tw → Readable tw cw 3 p
-  task-readable p h = record { task = λ e. h; row = λ ne. absurd (ne refl); joined = λ ne. absurd (ne refl) }
+  pub task_readable : (p : ℕ) → p < count tw → Readable tw cw 3 p
+  task_readable p h = record { task = λ e. h; row = λ ne. absurd (ne refl); joined = λ ne. absurd (ne refl) }
 
-  pub row-readable : (p : ℕ) → p < rows cw → Readable tw cw 4 p
-  row-readable p h = record { task = λ e. absurd (omega (arith, e)); row = λ ne. h; joined = λ ne nf. absurd (nf refl) }
+  pub row_readable : (p : ℕ) → p < rows cw → Readable tw cw 4 p
+  row_readable p h = record { task = λ e. absurd (omega (arith, e)); row = λ ne. h; joined = λ ne nf. absurd (nf refl) }
 
   module _ (ts : Tables tw cw) where
-    pub joined-readable : (number p : ℕ) → (number ≡ 3 → ⊥) → p < rows cw → Readable tw cw number p
-    joined-readable number p other h =
+    pub joined_readable : (number p : ℕ) → (number ≡ 3 → ⊥) → p < rows cw → Readable tw cw number p
+    joined_readable number p other h =
         let w = ts.joins p h in
         record {
           task = λ e. absurd (other e);
           row = λ ne. h;
           joined = λ ne nf. record {
-            sender-task = w.sender-task;
-            receiver-task = w.receiver-task;
-            sender-period = (ts.sizes (sender cw p) w.sender-task).period-low;
-            receiver-period = (ts.sizes (receiver cw p) w.receiver-task).period-low;
+            sender_task = w.sender_task;
+            receiver_task = w.receiver_task;
+            sender_period = (ts.sizes (sender cw p) w.sender_task).period_low;
+            receiver_period = (ts.sizes (receiver cw p) w.receiver_task).period_low;
           };
         }
 
@@ -101,7 +101,7 @@ module _ (tw cw : List ℕ) where
     rows_named c h =
         let w = ts.joins c h in
         let m = ts.lengths.tasks_most in
-        (omega (arith, w.sender-task), omega (arith, w.receiver-task))
+        (omega (arith, w.sender_task), omega (arith, w.receiver_task))
 
     -- by the square: 6
     module _
@@ -115,41 +115,41 @@ module _ (tw cw : List ℕ) where
         says q b = (
           b.0,
           lt-ltb 0 (between sq q q)
-              (upto-reached (Link cw) (count tw) ts.lengths.some (link-within tw cw ts) q q (between sq q q) (upto q b.0) b.1),
+              (upto_reached (Link cw) (count tw) ts.lengths.some (link_within tw cw ts) q q (between sq q q) (upto q b.0) b.1),
         )
 
         said : (q : ℕ) → (q < count tw) × (circles sq q ≡ true) → Bad tw cw 6 q
-        said q w = (w.0, upto-reaches (Link cw) (count tw) q q (between sq q q) (upto q w.0) (ltb-true 0 (between sq q q) w.1))
+        said q w = (w.0, upto_reaches (Link cw) (count tw) q q (between sq q q) (upto q w.0) (ltb-true 0 (between sq q q) w.1))
 
-        pub circle-refused : p < count tw → Refusal tw cw 6 p
-        circle-refused h = rw e (first-refused tw cw 6 (count tw) (circles sq) says said none (rw e at h))
+        pub circle_refused : p < count tw → Refusal tw cw 6 p
+        circle_refused h = rw e (first_refused tw cw 6 (count tw) (circles sq) says said none (rw e at h))
 
-        pub circle-passed : count tw ≤ p → NoneUnder tw cw 7
-        circle-passed h = first-passed tw cw 6 (count tw) (circles sq) says said none (rw e at h)
+        pub circle_passed : count tw ≤ p → NoneUnder tw cw 7
+        circle_passed h = first_passed tw cw 6 (count tw) (circles sq) says said none (rw e at h)
 
   -- by the common multiple: 8
   module _ (none : NoneUnder tw cw 8) (c : ℕ) (m : Multiple tw c) where
-    pub multiple-refused : c ≡ 0 → Refusal tw cw 8 0
-    multiple-refused z = refused-whole tw cw 8 none (refl, m.none z)
+    pub multiple_refused : c ≡ 0 → Refusal tw cw 8 0
+    multiple_refused z = refused-whole tw cw 8 none (refl, m.none z)
 
-    pub multiple-passed : 0 < c → Sound tw cw
-    multiple-passed h = none_at_all tw cw (none_more tw cw 8 none (λ q b. b.1 c h m.small (m.is h).0))
+    pub multiple_passed : 0 < c → Sound tw cw
+    multiple_passed h = none_at_all tw cw (none_more tw cw 8 none (λ q b. b.1 c h m.small (m.is h).0))
 
   -- -------------------------------------------------------------------------------------------------------------------------
   -- A plan
 
-  column-zero-from : (f : ℕ → ℕ) (l : List ℕ) → l ≡ column f (count tw) 0 most_tasks → ZeroFrom (count tw) l
-  column-zero-from f l e = (ap length e ∙ column-length f (count tw) 0 most_tasks, λ p h. rw e (column-past f (count tw) 0 most_tasks p h))
+  column-zero_from : (f : ℕ → ℕ) (l : List ℕ) → l ≡ column f (count tw) 0 most_tasks → ZeroFrom (count tw) l
+  column-zero_from f l e = (ap length e ∙ column-length f (count tw) 0 most_tasks, λ p h. rw e (column-past f (count tw) 0 most_tasks p h))
 
   module _
       (sound : Sound tw cw) (sq : List (List ℕ)) (s : Square (Link cw) (count tw) sq) (c : ℕ) (some : 0 < c) (m : Multiple tw c) (r : Plan)
       (w : WorkedOut tw sq c r)
     where
       ts : Tables tw cw
-      ts = tables-of tw cw sound
+      ts = tables_of tw cw sound
 
       free : Acyclic (Link cw)
-      free = no-circle tw cw ts (sound 6)
+      free = no_circle tw cw ts (sound 6)
 
       column-is : (f : ℕ → ℕ) (l : List ℕ) (i : ℕ) → l ≡ column f (count tw) 0 most_tasks → i < count tw → f i ≡ get_or l i 0
       column-is f l i e h = rw e (sym (column-at f (count tw) 0 most_tasks i h ts.lengths.tasks_most))
@@ -167,9 +167,9 @@ module _ (tw cw : List ℕ) where
         order_is = w.ordered.in_order;
         multiple_is = rw w.multiple_is (multiple_right tw c some m);
         order_past = w.ordered.past;
-        deadlines_past = column-zero-from (λ i. deadline_over tw sq i (count tw)) r.deadlines w.deadlines_are;
-        criticalities_past = column-zero-from (λ i. criticality_over tw sq i (count tw)) r.criticalities w.criticalities_are;
+        deadlines_past = column-zero_from (λ i. deadline_over tw sq i (count tw)) r.deadlines w.deadlines_are;
+        criticalities_past = column-zero_from (λ i. criticality_over tw sq i (count tw)) r.criticalities w.criticalities_are;
       }
 
-      pub plan-accepted : PlanIs tw cw r
-      plan-accepted = subst (λ (v : Verdict). Judges tw cw v r) (sym (verdict_says-injective r.verdict verdict.Accepted w.accepted)) accepts
+      pub plan_accepted : PlanIs tw cw r
+      plan_accepted = subst (λ (v : Verdict). Judges tw cw v r) (sym (verdict_says-injective r.verdict verdict.Accepted w.accepted)) accepts

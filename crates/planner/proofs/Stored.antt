@@ -9,7 +9,7 @@ use lib.ListN.{get_or, length, set, replicate}
 use lib.Seq.{get_or-set_same, get_or-set_other}
 use Rattle.rules.specs.Counting.{column}
 use Rattle.rules.proofs.Tests.{eq_or}
-use Rattle.rules.proofs.Counting.{mapBelow-turn, mapBelow-end}
+use Rattle.rules.proofs.Counting.{map_below-turn, map_below-end}
 
 module _ {A : Type 0} where
   pub stored_at :
@@ -29,9 +29,9 @@ module _ {A : Type 0} where
   pub column-turn :
       (f : ℕ → A) (i : ℕ) (z : A) (places : ℕ) (out : List A) (v : A) → out ≡ column f i z places → v ≡ f i
       → set out i v ≡ column f (i + 1) z places
-  column-turn f i z places out v e q = mapBelow-turn (λ k _. f k) i (replicate places z) out z v e q
+  column-turn f i z places out v e q = map_below-turn (λ k _. f k) i (replicate places z) out z v e q
 
   pub column-end :
       (f : ℕ → A) (n i : ℕ) (z : A) (places : ℕ) (out : List A) → i ≤ n → n ≤ i → out ≡ column f i z places
       → out ≡ column f n z places
-  column-end f n i z places out a b e = mapBelow-end (λ k _. f k) n i (replicate places z) out a b e
+  column-end f n i z places out a b e = map_below-end (λ k _. f k) n i (replicate places z) out a b e

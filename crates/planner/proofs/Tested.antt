@@ -52,9 +52,9 @@ module _ {P : ℕ → Type 0} (n : ℕ) (d : (q : ℕ) → Decision (P q)) where
   said q w = (w.0, (d q).if_true w.1)
 
 module _ (tw cw : List ℕ) where
-  pub sizes-told : Told tw cw 3 (count tw)
+  pub sizes_told : Told tw cw 3 (count tw)
   unfolding stands
-  sizes-told = record { says = says (count tw) (λ q. fails (decide.in_size tw q)); said = said (count tw) (λ q. fails (decide.in_size tw q)) }
+  sizes_told = record { says = says (count tw) (λ q. fails (decide.in_size tw q)); said = said (count tw) (λ q. fails (decide.in_size tw q)) }
 
   pub joins-told : Told tw cw 4 (rows cw)
   unfolding stands

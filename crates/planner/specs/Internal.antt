@@ -36,8 +36,8 @@ pub record Workable (tw : List ℕ) (sq : List (List ℕ)) : Type 0 where
 
 -- both numbers of task i
 pub record NumbersAre (tw : List ℕ) (sq : List (List ℕ)) (i : ℕ) (r : Numbers) : Type 0 where
-  pub deadline-is : r.deadline ≡ deadline_over tw sq i (count tw)
-  pub criticality-is : r.criticality ≡ criticality_over tw sq i (count tw)
+  pub deadline_is : r.deadline ≡ deadline_over tw sq i (count tw)
+  pub criticality_is : r.criticality ≡ criticality_over tw sq i (count tw)
 
 -- both numbers of each task by table position, zeros past the last
 pub record ColumnsAre (tw : List ℕ) (sq : List (List ℕ)) (r : Columns) : Type 0 where

@@ -32,10 +32,10 @@ raised from to = ltb to.criticality from.criticality && eqb from.flag 0
 
 -- row c joins two tasks that have periods
 pub record Joined (tw cw : List ℕ) (c : ℕ) : Type 0 where
-  pub sender-task : sender cw c < count tw
-  pub receiver-task : receiver cw c < count tw
-  pub sender-period : 0 < period tw (sender cw c)
-  pub receiver-period : 0 < period tw (receiver cw c)
+  pub sender_task : sender cw c < count tw
+  pub receiver_task : receiver cw c < count tw
+  pub sender_period : 0 < period tw (sender cw c)
+  pub receiver_period : 0 < period tw (receiver cw c)
 
 -- what the test of a number at place p reads is there: 3 a task, 4 a row, 5 and 7 a row and its tasks
 pub record Readable (tw cw : List ℕ) (number p : ℕ) : Type 0 where

@@ -14,7 +14,7 @@ use Rattle.rules.specs.Answers.{reading_says}
 use Rattle.rules.specs.declared.Reading.{Reading}
 use Rattle.rules.specs.declared.Reading.TheVariants as reading
 use Rattle.rules.proofs.Parts.{sets_then}
-use Rattle.rules.proofs.File.{Sound, left, left-task, left-connection, left_end, left-refusal, sound-here}
+use Rattle.rules.proofs.File.{Sound, left, left_task, left_connection, left_end, left_refusal, sound_here}
 use Rattle.reader.specs.Read.{stored, PassIs}
 
 -- words that are stored, or not, and then more behind them
@@ -42,13 +42,13 @@ module _ {store : Bool} {file tasks₀ connections₀ tasks connections : List �
 
   -- what the item here shows
   pub shows : (i : Item) → here ≡ i → Sound at t c (length file - at) i
-  shows i e = subst (Sound at t c (length file - at)) e (sound-here file at t c g.few_tasks g.few_rows)
+  shows i e = subst (Sound at t c (length file - at)) e (sound_here file at t c g.few_tasks g.few_rows)
 
-  pub going-task : (ws tasks' : List ℕ) → here ≡ Item.task ws → tasks' ≡ stored store tasks (t * 5) ws → length tasks' ≡ length tasks → Going store file tasks₀ connections₀ tasks' connections (at + 10) (t + 1) c
+  pub going_task : (ws tasks' : List ℕ) → here ≡ Item.task ws → tasks' ≡ stored store tasks (t * 5) ws → length tasks' ≡ length tasks → Going store file tasks₀ connections₀ tasks' connections (at + 10) (t + 1) c
   unfolding reading_of task_words connection_words
-  going-task ws tasks' h e kept =
+  going_task ws tasks' h e kept =
       let s = shows (Item.task ws) h in
-      let l = left-task file at t c g.few_tasks g.few_rows ws h in
+      let l = left_task file at t c g.few_tasks g.few_rows ws h in
       let place : (t + 1) * 5 ≡ t * 5 + length ws = omega arith in
       record {
         few_tasks = omega arith;
@@ -61,11 +61,11 @@ module _ {store : Bool} {file tasks₀ connections₀ tasks connections : List �
         row_table = rw l at g.row_table;
       }
 
-  pub going-connection : (ws connections' : List ℕ) → here ≡ Item.connection ws → connections' ≡ stored store connections (c * 3) ws → length connections' ≡ length connections → Going store file tasks₀ connections₀ tasks connections' (at + 5) t (c + 1)
+  pub going_connection : (ws connections' : List ℕ) → here ≡ Item.connection ws → connections' ≡ stored store connections (c * 3) ws → length connections' ≡ length connections → Going store file tasks₀ connections₀ tasks connections' (at + 5) t (c + 1)
   unfolding reading_of task_words connection_words
-  going-connection ws connections' h e kept =
+  going_connection ws connections' h e kept =
       let s = shows (Item.connection ws) h in
-      let l = left-connection file at t c g.few_tasks g.few_rows ws h in
+      let l = left_connection file at t c g.few_tasks g.few_rows ws h in
       let place : (c + 1) * 3 ≡ c * 3 + length ws = omega arith in
       record {
         few_tasks = g.few_tasks;
@@ -78,9 +78,9 @@ module _ {store : Bool} {file tasks₀ connections₀ tasks connections : List �
         row_table = rw (place, e) (stored-then store connections (c * 3) ws (connection_words (left file (at + 5) t (c + 1))) ∙ (rw l at g.row_table));
       }
 
-  pub pass-end : here ≡ Item.end → PassIs store file tasks₀ connections₀ (reading.Read t c) tasks connections
+  pub pass_end : here ≡ Item.end → PassIs store file tasks₀ connections₀ (reading.Read t c) tasks connections
   unfolding reading_of task_words connection_words
-  pass-end h =
+  pass_end h =
       let l = left_end file at t c g.few_tasks g.few_rows h in
       record {
         told = ap reading_says (rw l at g.answer);
@@ -88,10 +88,10 @@ module _ {store : Bool} {file tasks₀ connections₀ tasks connections : List �
         row_table = sym (stored-none store connections (c * 3)) ∙ (rw l at g.row_table);
       }
 
-  pub pass-refusal : (n p : ℕ) → here ≡ Item.refusal n p → PassIs store file tasks₀ connections₀ (reading.Refused n p) tasks connections
+  pub pass_refusal : (n p : ℕ) → here ≡ Item.refusal n p → PassIs store file tasks₀ connections₀ (reading.Refused n p) tasks connections
   unfolding reading_of task_words connection_words
-  pass-refusal n p h =
-      let l = left-refusal file at t c g.few_tasks g.few_rows n p h in
+  pass_refusal n p h =
+      let l = left_refusal file at t c g.few_tasks g.few_rows n p h in
       record {
         told = ap reading_says (rw l at g.answer);
         task_table = sym (stored-none store tasks (t * 5)) ∙ (rw l at g.task_table);

@@ -52,12 +52,12 @@ module _ (file tasks connections : List ℕ) (room : short tasks connections ≡
   asked-pass r told = asked-contents ∙ sym (reading_says-injective r (reading_of 0 0 (contents_of file)) told)
 
   -- a pass that stores nothing leaves both tables as they were
-  pub read-refused : (n p : ℕ) (tasks' connections' : List ℕ) → PassIs false file tasks connections (reading.Refused n p) tasks' connections' → ReadIs file tasks connections (reading.Refused n p) tasks' connections'
-  read-refused n p tasks' connections' h = rw (h.task_table, h.row_table) (read_refusal file tasks connections n p (asked-pass (reading.Refused n p) h.told))
+  pub read_refused : (n p : ℕ) (tasks' connections' : List ℕ) → PassIs false file tasks connections (reading.Refused n p) tasks' connections' → ReadIs file tasks connections (reading.Refused n p) tasks' connections'
+  read_refused n p tasks' connections' h = rw (h.task_table, h.row_table) (read_refusal file tasks connections n p (asked-pass (reading.Refused n p) h.told))
 
-  pub read-accepted : (t c : ℕ) (r : Reading) (tasks' connections' tasks'' connections'' : List ℕ) → PassIs false file tasks connections (reading.Read t c) tasks' connections' → PassIs true file tasks' connections' r tasks'' connections'' → ReadIs file tasks connections r tasks'' connections''
+  pub read_accepted : (t c : ℕ) (r : Reading) (tasks' connections' tasks'' connections'' : List ℕ) → PassIs false file tasks connections (reading.Read t c) tasks' connections' → PassIs true file tasks' connections' r tasks'' connections'' → ReadIs file tasks connections r tasks'' connections''
   unfolding filled
-  read-accepted t c r tasks' connections' tasks'' connections'' h k =
+  read_accepted t c r tasks' connections' tasks'' connections'' h k =
       let e = asked-pass (reading.Read t c) h.told in
       record {
         told = k.told ∙ ap reading_says (sym asked-contents);
@@ -89,9 +89,9 @@ module _ {file tasks connections tasks' connections' : List ℕ} where
   pub read_answer : {r : Reading} → ReadIs file tasks connections r tasks' connections' → asked file tasks connections ≡ r
   read_answer {r} h = sym (reading_says-injective r (asked file tasks connections) h.told)
 
-  pub read-tables : {r : Reading} {t c : ℕ} → ReadIs file tasks connections r tasks' connections' → r ≡ reading.Read t c → Accepted file t c tasks' connections'
+  pub read_tables : {r : Reading} {t c : ℕ} → ReadIs file tasks connections r tasks' connections' → r ≡ reading.Read t c → Accepted file t c tasks' connections'
   unfolding filled
-  read-tables {t = t} {c = c} h q =
+  read_tables {t = t} {c = c} h q =
       let e = read_answer h ∙ q in
       by_test (short tasks connections) (λ s. absurd (refused-read (sym (asked-short file tasks connections s) ∙ e)))
       (λ s.

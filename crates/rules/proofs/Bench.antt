@@ -18,7 +18,7 @@ use Rattle.rules.specs.declared.State.{State}
 use Rattle.rules.specs.declared.Plan.{Plan}
 use Rattle.rules.specs.declared.Answer.{Answer}
 use Rattle.rules.specs.declared.Verdict.TheVariants as verdict
-use Rattle.rules.proofs.Deciding.{Decision, restated, both, where-so, all, some, every, equal, lt, tested, Each}
+use Rattle.rules.proofs.Deciding.{Decision, restated, both, where_so, all, some, every, equal, lt, tested, Each}
 use Rattle.rules.proofs.DecidingPlans.{plan_is}
 
 -- ---------------------------------------------------------------------------------------------------------------------------
@@ -28,7 +28,7 @@ use Rattle.rules.proofs.DecidingPlans.{plan_is}
 -- sender there, and w is what it said last in them
 pub record Reads (s : State) (m : Moment) (r i k n w : ℕ) : Type 0 where
   pub latest : m.ticks ≡ suc r
-  pub dispatched-then : k * period s i ≡ r
+  pub dispatched_then : k * period s i ≡ r
   pub some_row : (c : ℕ) × (c < s.rows) × (receiver s c ≡ i)
   pub job : JobAt s m i k (λ c. w)
   pub by_rule : (c : ℕ) → c < s.rows → receiver s c ≡ i → (counted s c r ≡ n) × (said (m.words (sender s c)) n ≡ w)
@@ -134,18 +134,18 @@ job_at s m i k x =
     (both (lt i s.count)
     (both (tested (started (phase_of m.state i)) true)
     (both (equal (length (m.words i)) k)
-    (all s.rows (λ c. where-so (equal (receiver s c) i) (equal (input m.state c) (x c))))))))
+    (all s.rows (λ c. where_so (equal (receiver s c) i) (equal (input m.state c) (x c))))))))
 
 abbrev reads_is : (s : State) (m : Moment) (r i k n w : ℕ) → Decision (Reads s m r i k n w)
 reads_is s m r i k n w =
     restated
-    (λ x. record { latest = x.0; dispatched-then = x.1.0; some_row = x.1.1.0; job = x.1.1.1.0; by_rule = x.1.1.1.1 })
-    (λ x. (x.latest, (x.dispatched-then, (x.some_row, (x.job, x.by_rule)))))
+    (λ x. record { latest = x.0; dispatched_then = x.1.0; some_row = x.1.1.0; job = x.1.1.1.0; by_rule = x.1.1.1.1 })
+    (λ x. (x.latest, (x.dispatched_then, (x.some_row, (x.job, x.by_rule)))))
     (both (equal m.ticks (suc r))
     (both (equal (k * period s i) r)
     (both (some s.rows (λ c. equal (receiver s c) i))
     (both (job_at s m i k (λ c. w))
-    (all s.rows (λ c. where-so (equal (receiver s c) i) (both (equal (counted s c r) n) (equal (said (m.words (sender s c)) n) w))))))))
+    (all s.rows (λ c. where_so (equal (receiver s c) i) (both (equal (counted s c r) n) (equal (said (m.words (sender s c)) n) w))))))))
 
 abbrev falls_is : (m : Moment) (t i : ℕ) (so : Bool) → Decision (Falls m t i so)
 falls_is m t i so =

@@ -20,10 +20,10 @@ use Rattle.rules.specs.declared.Step.{Step}
 use Rattle.rules.specs.declared.Answer.{Answer}
 use Rattle.rules.specs.declared.Answer.TheVariants as answer
 use Rattle.rules.proofs.Tests.{cond_by, false_true, eq_or}
-use Rattle.rules.proofs.Counting.{mapBelow-keeps}
+use Rattle.rules.proofs.Counting.{map_below-keeps}
 use Rattle.rules.proofs.Answers.{step-one}
 use Rattle.rules.proofs.Steps.{SamePlan, chosen-answer, chosen-dispatch, chosen-cycle}
-use Rattle.rules.proofs.Range.{Ranged, in_range-ranged, ranged-inRange}
+use Rattle.rules.proofs.Range.{Ranged, in_range-ranged, ranged_in_range}
 use Rattle.rules.proofs.Kept.{Kept, kept_refl, moved-on_kept, ticking-kept, completing-kept}
 
 -- ---------------------------------------------------------------------------------------------------------------------------
@@ -96,12 +96,12 @@ complete_refused s w =
 pub tick_kept : (s : State) → Kept s (tick_of s).state
 tick_kept s =
     judged-by (λ (r : Step). Kept s r.state) (in_range s) s.halted s (ticking s) (λ _. kept_refl s)
-    (λ e _. ticking-kept s (in_range-ranged s e).names-task)
+    (λ e _. ticking-kept s (in_range-ranged s e).names_task)
 
 pub complete_kept : (s : State) (w : ℕ) → Kept s (complete_of s w).state
 complete_kept s w =
     judged-by (λ (r : Step). Kept s r.state) (in_range s) s.halted s (completing s w) (λ _. kept_refl s)
-    (λ e _. completing-kept s w (in_range-ranged s e).names-task)
+    (λ e _. completing-kept s w (in_range-ranged s e).names_task)
 
 -- ---------------------------------------------------------------------------------------------------------------------------
 -- A state in range stays one.
@@ -130,16 +130,16 @@ ranged_plan s z p r b =
       times = λ i h.
           let t = r.times i h in
           record {
-            compute-low = t.compute-low;
-            compute-high = t.compute-high;
-            deadline-high = t.deadline-high;
-            period-high = t.period-high;
+            compute_low = t.compute_low;
+            compute_high = t.compute_high;
+            deadline_high = t.deadline_high;
+            period_high = t.period_high;
           };
       dispatches = b.dispatches;
       joins = λ c h.
           let j = r.joins c h in
-          record { sender-task = j.sender-task; receiver-task = j.receiver-task };
-      names-task = r.names-task;
+          record { sender_task = j.sender_task; receiver_task = j.receiver_task };
+      names_task = r.names_task;
       has_place = r.has_place;
     })
 
@@ -148,12 +148,12 @@ ranged_below s r = record { cycle = r.sizes.cycle_below; dispatches = r.dispatch
 
 module _ (n u : ℕ) where
   -- step 3 records the cycle
-  exchanged-below : (s : State) → Below n u s → Below n u (dispatched (delivered s))
+  exchanged_below : (s : State) → Below n u s → Below n u (dispatched (delivered s))
   unfolding delivered dispatched
-  exchanged-below s b = record {
+  exchanged_below s b = record {
     cycle = b.cycle;
     dispatches = λ i h.
-        mapBelow-keeps (λ (x : ℕ). x < u) (records s)
+        map_below-keeps (λ (x : ℕ). x < u) (records s)
         (λ k x l. cond_by (λ (y : ℕ). y < u) (released s k) s.cycle x (λ _. b.cycle) (λ _. l))
         s.count s.dispatches i 0 (b.dispatches i h);
   }
@@ -174,9 +174,9 @@ module _ (n u : ℕ) where
     dispatches = b.dispatches;
   }
 
-  endedAt-below : (s : State) (i w : ℕ) → Below n u s → Below n u (ended_at s i w)
+  ended_at-below : (s : State) (i w : ℕ) → Below n u s → Below n u (ended_at s i w)
   unfolding ended_at
-  endedAt-below s i w b = record { cycle = b.cycle; dispatches = b.dispatches }
+  ended_at-below s i w b = record { cycle = b.cycle; dispatches = b.dispatches }
 
 ticking-below : (s : State) → Ranged s → OwnBelow s (ticking s).state
 unfolding ticking
@@ -186,32 +186,32 @@ ticking-below s r =
     let z = dispatched (delivered s) in
     let y = (chosen z).state in
     let b : Below n u s = ranged_below s r in
-    let k : SamePlan s y = (moved-on_kept s r.names-task).plan in
+    let k : SamePlan s y = (moved-on_kept s r.names_task).plan in
     cond_by (λ (x : Step). OwnBelow s x.state) (ltb (missing s) s.count)
     (step (answer.Missed (missing s)) (set_halted s true)) (step (chosen z).answer (advanced y))
     (λ _. record { cycle = b.cycle; dispatches = b.dispatches })
-    (λ _. advanced-below n u y (sym (ap (λ (x : State). x.multiple) k)) (chosen-below n u z (exchanged-below n u s b)))
+    (λ _. advanced-below n u y (sym (ap (λ (x : State). x.multiple) k)) (chosen-below n u z (exchanged_below n u s b)))
 
 completing-below : (s : State) (w : ℕ) → Ranged s → OwnBelow s (completing s w).state
 unfolding completing
 completing-below s w r =
     let b = ranged_below s r in
     cond_by (λ (x : Step). OwnBelow s x.state) (some_runs s) (chosen (ended_at s (running s) w)) (step (answer.Refused nothing_runs 0) s)
-    (λ _. chosen-below s.count s.multiple (ended_at s (running s) w) (endedAt-below s.count s.multiple s (running s) w b))
+    (λ _. chosen-below s.count s.multiple (ended_at s (running s) w) (ended_at-below s.count s.multiple s (running s) w b))
     (λ _. b)
 
 -- a carried out call keeps the range, so a judged one does
 kept_range : (s : State) (r : Step) → Kept s r.state → OwnBelow s r.state → in_range s ≡ true → in_range r.state ≡ true
-kept_range s r k b e = ranged-inRange r.state (ranged_plan s r.state k.plan (in_range-ranged s e) b)
+kept_range s r k b e = ranged_in_range r.state (ranged_plan s r.state k.plan (in_range-ranged s e) b)
 
 pub tick_keeps_range : (s : State) → in_range s ≡ true → in_range (tick_of s).state ≡ true
 tick_keeps_range s e =
     let r = in_range-ranged s e in
     judged-by (λ (x : Step). in_range x.state ≡ true) (in_range s) s.halted s (ticking s) (λ _. e)
-    (λ _ _. kept_range s (ticking s) (ticking-kept s r.names-task) (ticking-below s r) e)
+    (λ _ _. kept_range s (ticking s) (ticking-kept s r.names_task) (ticking-below s r) e)
 
 pub complete_keeps_range : (s : State) (w : ℕ) → in_range s ≡ true → in_range (complete_of s w).state ≡ true
 complete_keeps_range s w e =
     let r = in_range-ranged s e in
     judged-by (λ (x : Step). in_range x.state ≡ true) (in_range s) s.halted s (completing s w) (λ _. e)
-    (λ _ _. kept_range s (completing s w) (completing-kept s w r.names-task) (completing-below s w r) e)
+    (λ _ _. kept_range s (completing s w) (completing-kept s w r.names_task) (completing-below s w r) e)

@@ -16,45 +16,45 @@ use Rattle.rules.proofs.Tests.{by_test, and_left, and_right, and_both, and_not_l
 -- mapBelow
 
 module _ {A : Type 0} where
-  pub mapBelow-length : (f : ℕ → A → A) (n : ℕ) (xs : List A) → length (map_below f n xs) ≡ length xs
-  mapBelow-length f zero xs = refl
-  mapBelow-length f (suc n) [] = refl
-  mapBelow-length f (suc n) (x ∷ xs) = ap suc (mapBelow-length (λ k. f (suc k)) n xs)
+  pub map_below-length : (f : ℕ → A → A) (n : ℕ) (xs : List A) → length (map_below f n xs) ≡ length xs
+  map_below-length f zero xs = refl
+  map_below-length f (suc n) [] = refl
+  map_below-length f (suc n) (x ∷ xs) = ap suc (map_below-length (λ k. f (suc k)) n xs)
 
   -- past n all stays
-  pub mapBelow-past : (f : ℕ → A → A) (n : ℕ) (xs : List A) (k : ℕ) (d : A) → n ≤ k → get_or (map_below f n xs) k d ≡ get_or xs k d
-  mapBelow-past f zero xs k d h = refl
-  mapBelow-past f (suc n) [] k d h = refl
-  mapBelow-past f (suc n) (x ∷ xs) zero d h = absurd (omega arith)
-  mapBelow-past f (suc n) (x ∷ xs) (suc k) d h = mapBelow-past (λ j. f (suc j)) n xs k d (omega arith)
+  pub map_below-past : (f : ℕ → A → A) (n : ℕ) (xs : List A) (k : ℕ) (d : A) → n ≤ k → get_or (map_below f n xs) k d ≡ get_or xs k d
+  map_below-past f zero xs k d h = refl
+  map_below-past f (suc n) [] k d h = refl
+  map_below-past f (suc n) (x ∷ xs) zero d h = absurd (omega arith)
+  map_below-past f (suc n) (x ∷ xs) (suc k) d h = map_below-past (λ j. f (suc j)) n xs k d (omega arith)
 
   -- below n each element is changed
-  pub mapBelow-at : (f : ℕ → A → A) (n : ℕ) (xs : List A) (k : ℕ) (d : A) → k < n → k < length xs → get_or (map_below f n xs) k d ≡ f k (get_or xs k d)
-  mapBelow-at f zero xs k d h l = absurd (omega arith)
-  mapBelow-at f (suc n) [] k d h l = absurd (omega arith)
-  mapBelow-at f (suc n) (x ∷ xs) zero d h l = refl
-  mapBelow-at f (suc n) (x ∷ xs) (suc k) d h l = mapBelow-at (λ j. f (suc j)) n xs k d (omega arith) (omega arith)
+  pub map_below-at : (f : ℕ → A → A) (n : ℕ) (xs : List A) (k : ℕ) (d : A) → k < n → k < length xs → get_or (map_below f n xs) k d ≡ f k (get_or xs k d)
+  map_below-at f zero xs k d h l = absurd (omega arith)
+  map_below-at f (suc n) [] k d h l = absurd (omega arith)
+  map_below-at f (suc n) (x ∷ xs) zero d h l = refl
+  map_below-at f (suc n) (x ∷ xs) (suc k) d h l = map_below-at (λ j. f (suc j)) n xs k d (omega arith) (omega arith)
 
   -- changes that agree below n are one change
-  pub mapBelow-same : (f g : ℕ → A → A) (n : ℕ) (xs : List A) → ((k : ℕ) → k < n → (x : A) → f k x ≡ g k x) → map_below f n xs ≡ map_below g n xs
-  mapBelow-same f g zero xs h = refl
-  mapBelow-same f g (suc n) [] h = refl
-  mapBelow-same f g (suc n) (x ∷ xs) h =
-      rw (h zero (omega arith) x, mapBelow-same (λ k. f (suc k)) (λ k. g (suc k)) n xs (λ k l. h (suc k) (omega arith)))
+  pub map_below-same : (f g : ℕ → A → A) (n : ℕ) (xs : List A) → ((k : ℕ) → k < n → (x : A) → f k x ≡ g k x) → map_below f n xs ≡ map_below g n xs
+  map_below-same f g zero xs h = refl
+  map_below-same f g (suc n) [] h = refl
+  map_below-same f g (suc n) (x ∷ xs) h =
+      rw (h zero (omega arith) x, map_below-same (λ k. f (suc k)) (λ k. g (suc k)) n xs (λ k l. h (suc k) (omega arith)))
 
   -- a change that changes nothing
-  pub mapBelow-none : (f : ℕ → A → A) (n : ℕ) (xs : List A) → ((k : ℕ) → k < n → (x : A) → f k x ≡ x) → map_below f n xs ≡ xs
-  mapBelow-none f zero xs h = refl
-  mapBelow-none f (suc n) [] h = refl
-  mapBelow-none f (suc n) (x ∷ xs) h = rw (h zero (omega arith) x, mapBelow-none (λ k. f (suc k)) n xs (λ k l. h (suc k) (omega arith)))
+  pub map_below-none : (f : ℕ → A → A) (n : ℕ) (xs : List A) → ((k : ℕ) → k < n → (x : A) → f k x ≡ x) → map_below f n xs ≡ xs
+  map_below-none f zero xs h = refl
+  map_below-none f (suc n) [] h = refl
+  map_below-none f (suc n) (x ∷ xs) h = rw (h zero (omega arith) x, map_below-none (λ k. f (suc k)) n xs (λ k l. h (suc k) (omega arith)))
 
   -- what a change keeps of each element
-  pub mapBelow-keeps : (P : A → Type 0) (f : ℕ → A → A) → ((k : ℕ) (x : A) → P x → P (f k x)) →
+  pub map_below-keeps : (P : A → Type 0) (f : ℕ → A → A) → ((k : ℕ) (x : A) → P x → P (f k x)) →
       (n : ℕ) (xs : List A) (k : ℕ) (d : A) → P (get_or xs k d) → P (get_or (map_below f n xs) k d)
-  mapBelow-keeps P f h zero xs k d p = p
-  mapBelow-keeps P f h (suc n) [] k d p = p
-  mapBelow-keeps P f h (suc n) (x ∷ xs) zero d p = h zero x p
-  mapBelow-keeps P f h (suc n) (x ∷ xs) (suc k) d p = mapBelow-keeps P (λ j. f (suc j)) (λ j. h (suc j)) n xs k d p
+  map_below-keeps P f h zero xs k d p = p
+  map_below-keeps P f h (suc n) [] k d p = p
+  map_below-keeps P f h (suc n) (x ∷ xs) zero d p = h zero x p
+  map_below-keeps P f h (suc n) (x ∷ xs) (suc k) d p = map_below-keeps P (λ j. f (suc j)) (λ j. h (suc j)) n xs k d p
 
   more : (f : ℕ → A → A) (n : ℕ) (xs : List A) (d : A) → set (map_below f n xs) n (f n (get_or xs n d)) ≡ map_below f (suc n) xs
   more f zero [] d = refl
@@ -69,32 +69,32 @@ module _ {A : Type 0} where
   stays f (suc n) (x ∷ xs) d e = ap (λ (l : List A). f zero x ∷ l) (stays (λ k. f (suc k)) n xs d e)
 
   -- a loop that changes element i finds the old one there, stores the new one or skips it, and ends at n
-  pub mapBelow-here : (f : ℕ → A → A) (i : ℕ) (xs out : List A) (d : A) → out ≡ map_below f i xs → get_or out i d ≡ get_or xs i d
-  mapBelow-here f i xs out d e = rw e (mapBelow-past f i xs i d (omega arith))
+  pub map_below-here : (f : ℕ → A → A) (i : ℕ) (xs out : List A) (d : A) → out ≡ map_below f i xs → get_or out i d ≡ get_or xs i d
+  map_below-here f i xs out d e = rw e (map_below-past f i xs i d (omega arith))
 
-  pub mapBelow-turn : (f : ℕ → A → A) (i : ℕ) (xs out : List A) (d v : A) → out ≡ map_below f i xs → v ≡ f i (get_or xs i d) → set out i v ≡ map_below f (i + 1) xs
-  mapBelow-turn f i xs out d v e q = rw (q, e, add-one) (more f i xs d)
+  pub map_below-turn : (f : ℕ → A → A) (i : ℕ) (xs out : List A) (d v : A) → out ≡ map_below f i xs → v ≡ f i (get_or xs i d) → set out i v ≡ map_below f (i + 1) xs
+  map_below-turn f i xs out d v e q = rw (q, e, add-one) (more f i xs d)
 
-  pub mapBelow-skip : (f : ℕ → A → A) (i : ℕ) (xs out : List A) (d : A) → out ≡ map_below f i xs → f i (get_or xs i d) ≡ get_or xs i d → out ≡ map_below f (i + 1) xs
-  mapBelow-skip f i xs out d e q = rw add-one (e ∙ sym (stays f i xs d q))
+  pub map_below-skip : (f : ℕ → A → A) (i : ℕ) (xs out : List A) (d : A) → out ≡ map_below f i xs → f i (get_or xs i d) ≡ get_or xs i d → out ≡ map_below f (i + 1) xs
+  map_below-skip f i xs out d e q = rw add-one (e ∙ sym (stays f i xs d q))
 
-  pub mapBelow-end : (f : ℕ → A → A) (n i : ℕ) (xs out : List A) → i ≤ n → n ≤ i → out ≡ map_below f i xs → out ≡ map_below f n xs
-  mapBelow-end f n i xs out a z e = let q : i ≡ n = omega arith in rw q at e
+  pub map_below-end : (f : ℕ → A → A) (n i : ℕ) (xs out : List A) → i ≤ n → n ≤ i → out ≡ map_below f i xs → out ≡ map_below f n xs
+  map_below-end f n i xs out a z e = let q : i ≡ n = omega arith in rw q at e
 
   -- a column holds f below n and z from there on
-  pub replicate-at : (places k : ℕ) (z : A) → get_or (replicate places z) k z ≡ z
-  replicate-at zero k z = refl
-  replicate-at (suc m) zero z = refl
-  replicate-at (suc m) (suc k) z = replicate-at m k z
+  pub replicate_at : (places k : ℕ) (z : A) → get_or (replicate places z) k z ≡ z
+  replicate_at zero k z = refl
+  replicate_at (suc m) zero z = refl
+  replicate_at (suc m) (suc k) z = replicate_at m k z
 
   pub column-at : (f : ℕ → A) (n : ℕ) (z : A) (places k : ℕ) → k < n → n ≤ places → get_or (column f n z places) k z ≡ f k
-  column-at f n z places k h l = mapBelow-at (λ j _. f j) n (replicate places z) k z h (omega (arith, length-replicate places z))
+  column-at f n z places k h l = map_below-at (λ j _. f j) n (replicate places z) k z h (omega (arith, length-replicate places z))
 
   pub column-past : (f : ℕ → A) (n : ℕ) (z : A) (places k : ℕ) → n ≤ k → get_or (column f n z places) k z ≡ z
-  column-past f n z places k h = mapBelow-past (λ j _. f j) n (replicate places z) k z h ∙ replicate-at places k z
+  column-past f n z places k h = map_below-past (λ j _. f j) n (replicate places z) k z h ∙ replicate_at places k z
 
   pub column-length : (f : ℕ → A) (n : ℕ) (z : A) (places : ℕ) → length (column f n z places) ≡ places
-  column-length f n z places = mapBelow-length (λ j _. f j) n (replicate places z) ∙ length-replicate places z
+  column-length f n z places = map_below-length (λ j _. f j) n (replicate places z) ∙ length-replicate places z
 
 -- ---------------------------------------------------------------------------------------------------------------------------
 -- first_of

@@ -76,8 +76,8 @@ module _ {P Q : Type 0} where
     if_false = λ b w. let t = or_false d.test e.test b in ⊎_elim (d.if_false t.0) (e.if_false t.1) w;
   }
 
-  abbrev pub where-so : Decision P → Decision Q → Decision (P → Q)
-  where-so d e = record {
+  abbrev pub where_so : Decision P → Decision Q → Decision (P → Q)
+  where_so d e = record {
     test = not d.test || e.test;
     if_true = λ b p.
         ⊎_elim (λ t. absurd (d.if_false (not-true d.test t) p)) (λ t. e.if_true t) (or_true (not d.test) e.test b);

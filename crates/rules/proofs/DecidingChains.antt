@@ -12,7 +12,7 @@ use Rattle.rules.specs.Sizes.{row_width}
 use Rattle.rules.specs.Tables.{rows, sender, receiver, kind}
 use Rattle.rules.specs.Chains.{Link, Chain, Reaches}
 use Rattle.rules.proofs.Tests.{lt_or}
-use Rattle.rules.proofs.Chains.{Upto, upto-reached, upto-reaches}
+use Rattle.rules.proofs.Chains.{Upto, upto_reached, upto_reaches}
 use Rattle.rules.proofs.Deciding.{Decision, restated, both, some, equal, lt}
 
 -- as many tasks as the table of connections can name
@@ -75,6 +75,6 @@ between-upto cw i j = longest_upto cw (named cw) i j
 
 abbrev pub reaches : (cw : List ℕ) (i j : ℕ) → Decision (Reaches (Link cw) i j)
 reaches cw i j =
-    restated (upto-reaches (Link cw) (named cw) i j (between cw i j) (between-upto cw i j))
-    (upto-reached (Link cw) (named cw) (omega arith) (link_named cw) i j (between cw i j) (between-upto cw i j))
+    restated (upto_reaches (Link cw) (named cw) i j (between cw i j) (between-upto cw i j))
+    (upto_reached (Link cw) (named cw) (omega arith) (link_named cw) i j (between cw i j) (between-upto cw i j))
     (lt 0 (between cw i j))

@@ -17,9 +17,9 @@ use Rattle.rules.specs.declared.Plan.{Plan}
 use Rattle.rules.specs.declared.Verdict.{Verdict}
 use Rattle.rules.specs.declared.Verdict.TheVariants.{Accepted, Refused}
 use Rattle.rules.proofs.Tests.{lt_or}
-use Rattle.rules.proofs.Chains.{chain-ends, upto-longest, longest-one}
-use Rattle.rules.proofs.Refusals.{none_more, none_at_all, lengths-of, tables-of, no-circle}
-use Rattle.rules.proofs.Deciding.{Decision, restated, both, either, fails, where-so, all, some, equal, le, lt}
+use Rattle.rules.proofs.Chains.{chain_ends, upto_longest, longest_one}
+use Rattle.rules.proofs.Refusals.{none_more, none_at_all, lengths_of, tables_of, no_circle}
+use Rattle.rules.proofs.Deciding.{Decision, restated, both, either, fails, where_so, all, some, equal, le, lt}
 use Rattle.rules.proofs.DecidingChains.{named, link_named, between, between-upto, reaches}
 use Rattle.rules.proofs.DecidingRefusals.{common, no_step, no_step_none, none_no_step, none_under, refusal}
 
@@ -32,11 +32,11 @@ LeastOf own n On f d = (d ≤ own) × (((j : ℕ) → j < n → On j → d ≤ f
 
 abbrev least_of : {On : ℕ → Type 0} (own n : ℕ) → ((j : ℕ) → Decision (On j)) → (f : ℕ → ℕ) (d : ℕ) → Decision (LeastOf own n On f d)
 least_of own n on f d =
-    both (le d own) (both (all n (λ j. where-so (on j) (le d (f j)))) (either (equal d own) (some n (λ j. both (on j) (equal d (f j))))))
+    both (le d own) (both (all n (λ j. where_so (on j) (le d (f j)))) (either (equal d own) (some n (λ j. both (on j) (equal d (f j))))))
 
 -- a task that is reached is one that a connection names
 pub reached_named : (cw : List ℕ) (i j : ℕ) → Reaches (Link cw) i j → j < named cw
-reached_named cw i j r = chain-ends (Link cw) (named cw) (omega arith) (link_named cw) r.0 i j r.1 r.2
+reached_named cw i j r = chain_ends (Link cw) (named cw) (omega arith) (link_named cw) r.0 i j r.1 r.2
 
 -- no chain returns to its start
 abbrev acyclic : (cw : List ℕ) → Decision (Acyclic (Link cw))
@@ -45,20 +45,20 @@ acyclic cw = restated (λ w i r. w i (reached_named cw i i r) r) (λ free i h r.
 module _ (tw cw : List ℕ) (i : ℕ) where
   -- where there is no circle, the longest chain from i to j is the one that was looked for
   between-longest : Acyclic (Link cw) → (j : ℕ) → Longest (Link cw) i j (between cw i j)
-  between-longest free j = upto-longest (Link cw) (named cw) (omega arith) (link_named cw) free i j (between cw i j) (between-upto cw i j)
+  between-longest free j = upto_longest (Link cw) (named cw) (omega arith) (link_named cw) free i j (between cw i j) (between-upto cw i j)
 
   between_is : Acyclic (Link cw) → (j b : ℕ) → 0 < b → Longest (Link cw) i j b → (j < named cw) × (b ≡ between cw i j)
   between_is free j b h l =
-      (reached_named cw i j (b, h, l.is h), longest-one (Link cw) i j b (between cw i j) l (between-longest free j))
+      (reached_named cw i j (b, h, l.is h), longest_one (Link cw) i j b (between cw i j) l (between-longest free j))
 
   abbrev Deadline : ℕ → Type 0
   Deadline d = LeastOf (deadline tw i * parts) (named cw) (λ j. 0 < between cw i j) (λ j. less_chain tw j (between cw i j)) d
 
-  abbrev deadlineOf : (d : ℕ) → Decision (Deadline d)
-  deadlineOf d = least_of (deadline tw i * parts) (named cw) (λ j. lt 0 (between cw i j)) (λ j. less_chain tw j (between cw i j)) d
+  abbrev deadline_of : (d : ℕ) → Decision (Deadline d)
+  deadline_of d = least_of (deadline tw i * parts) (named cw) (λ j. lt 0 (between cw i j)) (λ j. less_chain tw j (between cw i j)) d
 
-  pub deadline-is : Acyclic (Link cw) → (d : ℕ) → Deadline d → IsDeadline tw cw i d
-  deadline-is free d w = record {
+  pub deadline_is : Acyclic (Link cw) → (d : ℕ) → Deadline d → IsDeadline tw cw i d
+  deadline_is free d w = record {
     own = w.0;
     all = λ j b h l.
         let e = between_is free j b h l in
@@ -66,8 +66,8 @@ module _ (tw cw : List ℕ) (i : ℕ) where
     is = ⊎_elim inl (λ s. inr (s.0, between cw i s.0, s.2.0, between-longest free s.0, s.2.1)) w.1.1;
   }
 
-  pub is-deadline : Acyclic (Link cw) → (d : ℕ) → IsDeadline tw cw i d → Deadline d
-  is-deadline free d w = (
+  pub is_deadline : Acyclic (Link cw) → (d : ℕ) → IsDeadline tw cw i d → Deadline d
+  is_deadline free d w = (
     w.own,
     (
       (λ j h p. w.all j (between cw i j) p (between-longest free j)),
@@ -79,8 +79,8 @@ module _ (tw cw : List ℕ) (i : ℕ) where
     ),
   )
 
-  abbrev criticalityIs : (c : ℕ) → Decision (IsCriticality tw cw i c)
-  criticalityIs c =
+  abbrev criticality_is : (c : ℕ) → Decision (IsCriticality tw cw i c)
+  criticality_is c =
       restated
       (λ w. record {
         own = w.0;
@@ -93,8 +93,8 @@ module _ (tw cw : List ℕ) (i : ℕ) where
 -- all internal deadlines of a table with no circle
 abbrev deadlines_are : (tw cw : List ℕ) (d : ℕ → ℕ) → Decision (Acyclic (Link cw) × ((i : ℕ) → i < count tw → IsDeadline tw cw i (d i)))
 deadlines_are tw cw d =
-    restated (λ w. (w.0, λ i h. deadline-is tw cw i w.0 (d i) (w.1 i h))) (λ w. (w.0, λ i h. is-deadline tw cw i w.0 (d i) (w.1 i h)))
-    (both (acyclic cw) (all (count tw) (λ i. deadlineOf tw cw i (d i))))
+    restated (λ w. (w.0, λ i h. deadline_is tw cw i w.0 (d i) (w.1 i h))) (λ w. (w.0, λ i h. is_deadline tw cw i w.0 (d i) (w.1 i h)))
+    (both (acyclic cw) (all (count tw) (λ i. deadline_of tw cw i (d i))))
 
 -- ---------------------------------------------------------------------------------------------------------------------------
 -- The common multiple, and the refusals with it
@@ -118,7 +118,7 @@ sound_with tw cw c =
     restated
     (λ w. (none_at_all tw cw (none_more tw cw 8 w.1.0 (λ q b. b.1 c w.0.1.some w.1.1 w.0.1.common)), w.0.1))
     (λ w. (
-      ((lengths-of tw cw w.0).some, w.1),
+      ((lengths_of tw cw w.0).some, w.1),
       (
         λ l q h b. w.0 l q b,
         ⊎_elim (λ over. absurd (w.0 8 0 (refl, λ e p l h. omega (arith, w.1.least e p h)))) (λ h. h) (lt_or most_multiple c),
@@ -144,7 +144,7 @@ zero_from n l =
     restated
     (λ w. (w.0, λ p h. ⊎_elim (λ low. w.1 p low h) (λ past. get_or-eq_default l 0 {n = p} (omega (arith, w.0))) (lt_or p most_tasks)))
     (λ w. (w.0, λ p low h. w.1 p h))
-    (both (equal (length l) most_tasks) (all most_tasks (λ p. where-so (le n p) (equal (get_or l p 0) 0))))
+    (both (equal (length l) most_tasks) (all most_tasks (λ p. where_so (le n p) (equal (get_or l p 0) 0))))
 
 module _ (tw cw : List ℕ) (r : Plan) where
   abbrev accepts : Decision (Accepts tw cw r)
@@ -163,13 +163,13 @@ module _ (tw cw : List ℕ) (r : Plan) where
       (λ w. (
         (w.sound, w.multiple_is),
         (
-          (no-circle tw cw (tables-of tw cw w.sound) (w.sound 6), w.deadlines_are),
+          (no_circle tw cw (tables_of tw cw w.sound) (w.sound 6), w.deadlines_are),
           (w.criticalities_are, (w.order_is, (w.order_past, (w.deadlines_past, w.criticalities_past)))),
         ),
       ))
       (both (sound_with tw cw r.multiple)
       (both (deadlines_are tw cw (internal_deadline r))
-      (both (all (count tw) (λ i. criticalityIs tw cw i (internal_criticality r i)))
+      (both (all (count tw) (λ i. criticality_is tw cw i (internal_criticality r i)))
       (both (order_is (count tw) (internal_deadline r) (internal_criticality r) r.order)
       (both (zero_from (count tw) r.order) (both (zero_from (count tw) r.deadlines) (zero_from (count tw) r.criticalities)))))))
 

@@ -23,18 +23,18 @@ abbrev pub in_size : (tw : List ℕ) (i : ℕ) → Decision (InSize tw i)
 in_size tw i =
     restated
     (λ w. record {
-      period-low = w.0.0.0.0.0.0.0;
-      period-high = w.0.0.0.0.0.0.1;
-      deadline-low = w.0.0.0.0.0.1;
-      deadline-high = w.0.0.0.0.1;
-      compute-low = w.0.0.0.1;
-      compute-high = w.0.0.1;
-      criticality-high = w.0.1;
-      flag-high = w.1;
+      period_low = w.0.0.0.0.0.0.0;
+      period_high = w.0.0.0.0.0.0.1;
+      deadline_low = w.0.0.0.0.0.1;
+      deadline_high = w.0.0.0.0.1;
+      compute_low = w.0.0.0.1;
+      compute_high = w.0.0.1;
+      criticality_high = w.0.1;
+      flag_high = w.1;
     })
     (λ s. (
-      ((((((s.period-low, s.period-high), s.deadline-low), s.deadline-high), s.compute-low), s.compute-high), s.criticality-high),
-      s.flag-high,
+      ((((((s.period_low, s.period_high), s.deadline_low), s.deadline_high), s.compute_low), s.compute_high), s.criticality_high),
+      s.flag_high,
     ))
     (both (both (both (both (both (both (both
     (le 1 (period tw i)) (le (period tw i) longest_period)) (le 1 (deadline tw i))) (le (deadline tw i) (period tw i)))
@@ -42,8 +42,8 @@ in_size tw i =
 
 abbrev pub joins : (tw cw : List ℕ) (c : ℕ) → Decision (Joins tw cw c)
 joins tw cw c =
-    restated (λ w. record { sender-task = w.0.0; receiver-task = w.0.1; kind-known = w.1 })
-    (λ s. ((s.sender-task, s.receiver-task), s.kind-known))
+    restated (λ w. record { sender_task = w.0.0; receiver_task = w.0.1; kind_known = w.1 })
+    (λ s. ((s.sender_task, s.receiver_task), s.kind_known))
     (both (both (lt (sender cw c) (count tw)) (lt (receiver cw c) (count tw))) (le (kind cw c) 1))
 
 abbrev pub uneven : (tw cw : List ℕ) (c : ℕ) → Decision (Uneven tw cw c)
@@ -140,12 +140,12 @@ module _ (tw cw : List ℕ) where
       (λ p b. absurd b) and (λ p. at_zero) and (λ p. at_zero) and (λ p. at-task) and (λ p. at_row) and (λ p. at_row) and (λ p. at-task)
       and (λ p. at_row) and (λ p. at_zero) and done
 
-  pub bad-placed : (k p : ℕ) → Bad tw cw k p → p < places tw cw
-  bad-placed k p b = each_at (Placed tw cw) refusals-placed Never (λ q n. absurd n) k p b
+  pub bad_placed : (k p : ℕ) → Bad tw cw k p → p < places tw cw
+  bad_placed k p b = each_at (Placed tw cw) refusals-placed Never (λ q n. absurd n) k p b
 
 abbrev pub none_under : (tw cw : List ℕ) (k : ℕ) → Decision (NoneUnder tw cw k)
 none_under tw cw k =
-    restated (λ w l q h b. w l h q (bad-placed tw cw l q b) b) (λ none l h q g b. none l q h b)
+    restated (λ w l q h b. w l h q (bad_placed tw cw l q b) b) (λ none l h q g b. none l q h b)
     (all k (λ l. all (places tw cw) (λ q. fails (bad tw cw l q))))
 
 abbrev pub refusal : (tw cw : List ℕ) (k p : ℕ) → Decision (Refusal tw cw k p)

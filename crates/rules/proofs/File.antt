@@ -82,24 +82,24 @@ module _ (file : List ℕ) (at t c : ℕ) (few_tasks : t ≤ most_tasks) (few_ro
   unfolding records
   left_here = let e : most_records - (t + c) ≡ suc (96 - (t + c)) = omega arith in rw e
 
-  pub left-task : (ws : List ℕ) → here ≡ Item.task ws → left file at t c ≡ Contents.task ws (left file (at + 10) (t + 1) c)
+  pub left_task : (ws : List ℕ) → here ≡ Item.task ws → left file at t c ≡ Contents.task ws (left file (at + 10) (t + 1) c)
   unfolding onward
-  left-task ws h = let e : 96 - (t + c) ≡ most_records - (t + 1 + c) = omega arith in left_here ∙ rw (h, drop-drop 10 at file, e)
+  left_task ws h = let e : 96 - (t + c) ≡ most_records - (t + 1 + c) = omega arith in left_here ∙ rw (h, drop-drop 10 at file, e)
 
-  pub left-connection : (ws : List ℕ) → here ≡ Item.connection ws → left file at t c ≡ Contents.connection ws (left file (at + 5) t (c + 1))
+  pub left_connection : (ws : List ℕ) → here ≡ Item.connection ws → left file at t c ≡ Contents.connection ws (left file (at + 5) t (c + 1))
   unfolding onward
-  left-connection ws h = let e : 96 - (t + c) ≡ most_records - (t + (c + 1)) = omega arith in left_here ∙ rw (h, drop-drop 5 at file, e)
+  left_connection ws h = let e : 96 - (t + c) ≡ most_records - (t + (c + 1)) = omega arith in left_here ∙ rw (h, drop-drop 5 at file, e)
 
   pub left_end : here ≡ Item.end → left file at t c ≡ Contents.end
   unfolding onward
   left_end h = left_here ∙ rw h
 
-  pub left-refusal : (n p : ℕ) → here ≡ Item.refusal n p → left file at t c ≡ Contents.refusal n p
+  pub left_refusal : (n p : ℕ) → here ≡ Item.refusal n p → left file at t c ≡ Contents.refusal n p
   unfolding onward
-  left-refusal n p h = left_here ∙ rw h
+  left_refusal n p h = left_here ∙ rw h
 
-  pub sound-here : Sound at t c (length file - at) here
-  sound-here = rw length-drop at (item_sound at t c (drop at file))
+  pub sound_here : Sound at t c (length file - at) here
+  sound_here = rw length-drop at (item_sound at t c (drop at file))
 
 -- ---------------------------------------------------------------------------------------------------------------------------
 -- the whole file

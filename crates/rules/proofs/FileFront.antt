@@ -38,13 +38,13 @@ module _ (k : ℕ) (body : List ℕ) (long : k < length body) where
   unfolding task_row
   task_front h = simp (get_or-take k body 0 0 (omega arith), get_or-take k body 1 0 (omega arith), get_or-take k body 2 0 (omega arith), get_or-take k body 3 0 (omega arith), get_or-take k body 4 0 (omega arith), get_or-take k body 5 0 (omega arith), get_or-take k body 6 0 (omega arith), get_or-take k body 7 0 (omega arith))
 
-  connection-front : 3 ≤ k → connection_row (take k body) ≡ connection_row body
+  connection_front : 3 ≤ k → connection_row (take k body) ≡ connection_row body
   unfolding connection_row
-  connection-front h = simp (get_or-take k body 0 0 (omega arith), get_or-take k body 1 0 (omega arith), get_or-take k body 2 0 (omega arith))
+  connection_front h = simp (get_or-take k body 0 0 (omega arith), get_or-take k body 1 0 (omega arith), get_or-take k body 2 0 (omega arith))
 
   -- a test of the length says the same of both
-  long-enough : (n : ℕ) → n ≤ k → ltb (length (take k body)) n ≡ ltb (length body) n
-  long-enough n h = le-ltb (length (take k body)) n (omega (arith, cut)) ∙ sym (le-ltb (length body) n (omega arith))
+  long_enough : (n : ℕ) → n ≤ k → ltb (length (take k body)) n ≡ ltb (length body) n
+  long_enough n h = le-ltb (length (take k body)) n (omega (arith, cut)) ∙ sym (le-ltb (length body) n (omega arith))
 
   some : 1 ≤ k → ltb 0 (length (take k body)) ≡ ltb 0 (length body)
   some h = lt-ltb 0 (length (take k body)) (omega (arith, cut)) ∙ sym (lt-ltb 0 (length body) (omega arith))
@@ -53,9 +53,9 @@ module _ (k : ℕ) (body : List ℕ) (long : k < length body) where
   unfolding marked
   marked-cut m at t c h =
       cond_parts (eqb m TK) _ _ _ _
-      (cond_parts (leb most_tasks t) _ _ _ _ refl (λ u. let v : t < most_tasks = leb-false most_tasks t u in rw (long-enough 8 (omega arith), task_front (omega arith))))
+      (cond_parts (leb most_tasks t) _ _ _ _ refl (λ u. let v : t < most_tasks = leb-false most_tasks t u in rw (long_enough 8 (omega arith), task_front (omega arith))))
       (λ _. cond_parts (eqb m CN) _ _ _ _
-      (cond_parts (leb most_rows c) _ _ _ _ refl (λ u. let v : c < most_rows = leb-false most_rows c u in rw (long-enough 3 (omega arith), connection-front (omega arith))))
+      (cond_parts (leb most_rows c) _ _ _ _ refl (λ u. let v : c < most_rows = leb-false most_rows c u in rw (long_enough 3 (omega arith), connection_front (omega arith))))
       (λ _. cond_parts (eqb m EN) _ _ _ _ (rw (some (omega arith))) (λ _. refl)))
 
 marked-front : (m at t c k : ℕ) (body : List ℕ) → needed t c ≤ k + 2 → marked m at t c (take k body) ≡ marked m at t c body

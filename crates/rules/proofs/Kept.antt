@@ -18,7 +18,7 @@ use Rattle.rules.specs.declared.State.{State}
 use Rattle.rules.specs.declared.Step.{Step}
 use Rattle.rules.specs.declared.Answer.TheVariants as answer
 use Rattle.rules.proofs.Tests.{cond_by, and_left}
-use Rattle.rules.proofs.Counting.{mapBelow-length, mapBelow-past}
+use Rattle.rules.proofs.Counting.{map_below-length, map_below-past}
 use Rattle.rules.proofs.Steps.{SamePlan, starts, chosen-state}
 
 -- ys is as long as xs and has the same from place n on
@@ -27,17 +27,17 @@ pub record KeptPast {A : Type 0} (d : A) (n : ℕ) (xs ys : List A) : Type 0 whe
   pub past : (k : ℕ) → n ≤ k → get_or ys k d ≡ get_or xs k d
 
 module _ {A : Type 0} (d : A) (n : ℕ) where
-  past-refl : (xs : List A) → KeptPast d n xs xs
-  past-refl xs = record { size = refl; past = λ k h. refl }
+  past_refl : (xs : List A) → KeptPast d n xs xs
+  past_refl xs = record { size = refl; past = λ k h. refl }
 
-  past-trans : {xs ys zs : List A} → KeptPast d n xs ys → KeptPast d n ys zs → KeptPast d n xs zs
-  past-trans p q = record { size = q.size ∙ p.size; past = λ k h. q.past k h ∙ p.past k h }
+  past_trans : {xs ys zs : List A} → KeptPast d n xs ys → KeptPast d n ys zs → KeptPast d n xs zs
+  past_trans p q = record { size = q.size ∙ p.size; past = λ k h. q.past k h ∙ p.past k h }
 
-  past-map : (f : ℕ → A → A) (xs : List A) → KeptPast d n xs (map_below f n xs)
-  past-map f xs = record { size = mapBelow-length f n xs; past = λ k h. mapBelow-past f n xs k d h }
+  past_map : (f : ℕ → A → A) (xs : List A) → KeptPast d n xs (map_below f n xs)
+  past_map f xs = record { size = map_below-length f n xs; past = λ k h. map_below-past f n xs k d h }
 
-  past-set : (xs : List A) (i : ℕ) (v : A) → i < n → KeptPast d n xs (set xs i v)
-  past-set xs i v l = record { size = length-set xs i v; past = λ k h. get_or-set_other xs i k v d (λ e. omega arith) }
+  past_set : (xs : List A) (i : ℕ) (v : A) → i < n → KeptPast d n xs (set xs i v)
+  past_set xs i v l = record { size = length-set xs i v; past = λ k h. get_or-set_other xs i k v d (λ e. omega arith) }
 
 pub record Kept (s z : State) : Type 0 where
   pub plan : SamePlan s z
@@ -52,11 +52,11 @@ pub kept_marks : (s : State) (cycle : ℕ) (ticked halted : Bool) →
     Kept s (moved s s.tasks s.outputs s.dispatches s.buffers s.inputs cycle ticked halted)
 kept_marks s cycle ticked halted = record {
   plan = refl;
-  tasks = past-refl _ _ _;
-  outputs = past-refl _ _ _;
-  dispatches = past-refl _ _ _;
-  buffers = past-refl _ _ _;
-  inputs = past-refl _ _ _;
+  tasks = past_refl _ _ _;
+  outputs = past_refl _ _ _;
+  dispatches = past_refl _ _ _;
+  buffers = past_refl _ _ _;
+  inputs = past_refl _ _ _;
 }
 
 pub kept_refl : (s : State) → Kept s s
@@ -77,11 +77,11 @@ kept_trans s z y p q =
     let m : z.rows ≡ s.rows = plan_rows s z p.plan in
     record {
       plan = plan_trans s z y p.plan q.plan;
-      tasks = past-trans _ _ p.tasks (rw n at q).tasks;
-      outputs = past-trans _ _ p.outputs (rw n at q).outputs;
-      dispatches = past-trans _ _ p.dispatches (rw n at q).dispatches;
-      buffers = past-trans _ _ p.buffers (rw m at q).buffers;
-      inputs = past-trans _ _ p.inputs (rw m at q).inputs;
+      tasks = past_trans _ _ p.tasks (rw n at q).tasks;
+      outputs = past_trans _ _ p.outputs (rw n at q).outputs;
+      dispatches = past_trans _ _ p.dispatches (rw n at q).dispatches;
+      buffers = past_trans _ _ p.buffers (rw m at q).buffers;
+      inputs = past_trans _ _ p.inputs (rw m at q).inputs;
     }
 
 -- ---------------------------------------------------------------------------------------------------------------------------
@@ -91,33 +91,33 @@ pub delivered-kept : (s : State) → Kept s (delivered s)
 unfolding delivered
 delivered-kept s = record {
   plan = refl;
-  tasks = past-refl _ _ _;
-  outputs = past-refl _ _ _;
-  dispatches = past-refl _ _ _;
-  buffers = past-map 0 s.rows (delivers s) s.buffers;
-  inputs = past-refl _ _ _;
+  tasks = past_refl _ _ _;
+  outputs = past_refl _ _ _;
+  dispatches = past_refl _ _ _;
+  buffers = past_map 0 s.rows (delivers s) s.buffers;
+  inputs = past_refl _ _ _;
 }
 
 pub dispatched-kept : (s : State) → Kept s (dispatched s)
 unfolding dispatched
 dispatched-kept s = record {
   plan = refl;
-  tasks = past-map (task_in phase.Idle) s.count (wakes s) s.tasks;
-  outputs = past-refl _ _ _;
-  dispatches = past-map 0 s.count (records s) s.dispatches;
-  buffers = past-refl _ _ _;
-  inputs = past-map 0 s.rows (samples s) s.inputs;
+  tasks = past_map (task_in phase.Idle) s.count (wakes s) s.tasks;
+  outputs = past_refl _ _ _;
+  dispatches = past_map 0 s.count (records s) s.dispatches;
+  buffers = past_refl _ _ _;
+  inputs = past_map 0 s.rows (samples s) s.inputs;
 }
 
 pub started_at-kept : (s : State) (i : ℕ) → i < s.count → Kept s (started_at s i)
 unfolding started_at
 started_at-kept s i h = record {
   plan = refl;
-  tasks = past-set (task_in phase.Idle) s.count s.tasks i (task_in phase.Started) h;
-  outputs = past-refl _ _ _;
-  dispatches = past-refl _ _ _;
-  buffers = past-refl _ _ _;
-  inputs = past-map 0 s.rows (takes s i) s.inputs;
+  tasks = past_set (task_in phase.Idle) s.count s.tasks i (task_in phase.Started) h;
+  outputs = past_refl _ _ _;
+  dispatches = past_refl _ _ _;
+  buffers = past_refl _ _ _;
+  inputs = past_map 0 s.rows (takes s i) s.inputs;
 }
 
 pub advanced-kept : (s : State) → Kept s (advanced s)
@@ -131,11 +131,11 @@ pub ended_at-kept : (s : State) (i w : ℕ) → i < s.count → Kept s (ended_at
 unfolding ended_at
 ended_at-kept s i w h = record {
   plan = refl;
-  tasks = past-set (task_in phase.Idle) s.count s.tasks i (task_in phase.Idle) h;
-  outputs = past-set 0 s.count s.outputs i w h;
-  dispatches = past-refl _ _ _;
-  buffers = past-map 0 s.rows (posts s i w) s.buffers;
-  inputs = past-refl _ _ _;
+  tasks = past_set (task_in phase.Idle) s.count s.tasks i (task_in phase.Idle) h;
+  outputs = past_set 0 s.count s.outputs i w h;
+  dispatches = past_refl _ _ _;
+  buffers = past_map 0 s.rows (posts s i w) s.buffers;
+  inputs = past_refl _ _ _;
 }
 
 -- ---------------------------------------------------------------------------------------------------------------------------

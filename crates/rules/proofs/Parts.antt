@@ -10,8 +10,8 @@ use lib.ListN.{length, get_or, set, drop, take, length-drop}
 use lib.Seq.{sets, take_all, take-suc, length-take-le}
 
 module _ {A : Type 0} where
-  pub part-from : (s : List A) (k : ℕ) → take (length s - k) (drop k s) ≡ drop k s
-  part-from s k = take_all (length s - k) (drop k s) (omega (arith, length-drop k s))
+  pub part_from : (s : List A) (k : ℕ) → take (length s - k) (drop k s) ≡ drop k s
+  part_from s k = take_all (length s - k) (drop k s) (omega (arith, length-drop k s))
 
   -- words that are stored, and then more behind them
   pub sets_then : (ws vs l : List A) (i : ℕ) → sets (sets l i ws) (i + length ws) vs ≡ sets l i (ws ++ vs)
@@ -19,7 +19,7 @@ module _ {A : Type 0} where
   sets_then (w ∷ ws) vs l i = let e : i + suc (length ws) ≡ suc i + length ws = omega arith in rw e (sets_then ws vs (set l i w) (suc i))
 
   -- a loop that stores s from place `at` on: one turn
-  pub sets-turn : (s l out : List A) (at i : ℕ) (d : A) → i < length s → out ≡ sets l at (take i s) → set out (at + i) (get_or s i d) ≡ sets l at (take (i + 1) s)
-  sets-turn s l out at i d h e =
+  pub sets_turn : (s l out : List A) (at i : ℕ) (d : A) → i < length s → out ≡ sets l at (take i s) → set out (at + i) (get_or s i d) ≡ sets l at (take (i + 1) s)
+  sets_turn s l out at i d h e =
       let n : length (take i s) ≡ i = length-take-le i s (omega arith) in
       rw (add-one, take-suc s i d h, e) (rw n at (sets_then (take i s) (get_or s i d ∷ []) l at))

@@ -32,14 +32,14 @@ without_cases v x =
     ⊎_elim (λ h. inl (h, cond_true (ltb x v) x (x - 1) (lt-ltb x v h))) (λ h. inr (h, cond_false (ltb x v) x (x - 1) (le-ltb x v h))) (lt_or x v)
 
 module _ (m v : ℕ) (f : ℕ → ℕ) (v-small : v < suc m) (small : (p : ℕ) → p ≤ m → f p < suc m) (off : (p : ℕ) → p < suc m → f p ≡ v → ⊥) where
-  without-small : (p : ℕ) → p ≤ m → without v (f p) < m
-  without-small p h =
+  without_small : (p : ℕ) → p ≤ m → without v (f p) < m
+  without_small p h =
       let b = small p h in
       let o = off p (omega arith) in
       ⊎_elim (λ w. omega arith) (λ w. ⊎_elim (λ e. absurd (o e)) (λ ne. omega arith) (eq_or (f p) v)) (without_cases v (f p))
 
-  without-apart : (a b : ℕ) → a ≤ m → b ≤ m → without v (f a) ≡ without v (f b) → f a ≡ f b
-  without-apart a b ha hb e =
+  without_apart : (a b : ℕ) → a ≤ m → b ≤ m → without v (f a) ≡ without v (f b) → f a ≡ f b
+  without_apart a b ha hb e =
       let oa = off a (omega arith) in
       let ob = off b (omega arith) in
       ⊎_elim (λ w. ⊎_elim (λ x. omega arith) (λ x. omega arith) (without_cases v (f b)))
@@ -52,6 +52,6 @@ pigeonhole (suc m) f h =
     (λ off.
     let v-small = h (suc m) (omega arith) in
     let small : (p : ℕ) → p ≤ m → f p < suc m = λ p k. h p (omega arith) in
-    let t = pigeonhole m (λ p. without (f (suc m)) (f p)) (without-small m (f (suc m)) f v-small small off) in
-    (t.0, t.1, t.2, omega arith, without-apart m (f (suc m)) f v-small small off t.0 t.1 (omega arith) (omega arith) t.4))
+    let t = pigeonhole m (λ p. without (f (suc m)) (f p)) (without_small m (f (suc m)) f v-small small off) in
+    (t.0, t.1, t.2, omega arith, without_apart m (f (suc m)) f v-small small off t.0 t.1 (omega arith) (omega arith) t.4))
     (place_or f (f (suc m)) (suc m))

@@ -14,8 +14,8 @@ use Rattle.rules.specs.declared.Plan.{Plan}
 use Rattle.rules.specs.declared.Verdict.{Verdict}
 use Rattle.rules.specs.declared.Verdict.TheVariants.{Accepted, Refused}
 use Rattle.rules.proofs.Tests.{lt_or}
-use Rattle.rules.proofs.Refusals.{refusal-one, refused-not-sound}
-use Rattle.rules.proofs.Order.{deadline-one, criticality-one, multiple_one, order-one}
+use Rattle.rules.proofs.Refusals.{refusal_one, refused-not_sound}
+use Rattle.rules.proofs.Order.{deadline-one, criticality-one, multiple_one, order_one}
 
 -- two columns that agree below n, with zeros from there on
 pub zero_from_one : (n : ℕ) (a b : List ℕ) → ZeroFrom n a → ZeroFrom n b → ((p : ℕ) → p < n → get_or a p 0 ≡ get_or b p 0) → a ≡ b
@@ -26,8 +26,8 @@ zeros_one : (a b : List ℕ) → ZeroFrom 0 a → ZeroFrom 0 b → a ≡ b
 zeros_one a b x y = zero_from_one 0 a b x y (λ p h. absurd (omega arith))
 
 module _ (tw cw : List ℕ) (r s : Plan) where
-  accepts-one : r.verdict ≡ s.verdict → Accepts tw cw r → Accepts tw cw s → r ≡ s
-  accepts-one same a b = λ i. record {
+  accepts_one : r.verdict ≡ s.verdict → Accepts tw cw r → Accepts tw cw s → r ≡ s
+  accepts_one same a b = λ i. record {
     verdict = same i;
     order = orders i;
     deadlines = deadlines i;
@@ -51,12 +51,12 @@ module _ (tw cw : List ℕ) (r s : Plan) where
       orders : r.order ≡ s.order
       orders =
           zero_from_one (count tw) _ _ a.order_past b.order_past
-          (order-one (count tw) (internal_deadline s) (internal_criticality s) r.order s.order
+          (order_one (count tw) (internal_deadline s) (internal_criticality s) r.order s.order
           (subst (λ (x : List ℕ). OrderBy s.deadlines x) criticalities (subst (λ (x : List ℕ). OrderBy x r.criticalities) deadlines a.order_is))
           b.order_is)
 
-  refuses-one : (k p l q : ℕ) → r.verdict ≡ Refused k p → s.verdict ≡ Refused l q → Refuses tw cw k p r → Refuses tw cw l q s → r ≡ s
-  refuses-one k p l q er es a b = λ i. record {
+  refuses_one : (k p l q : ℕ) → r.verdict ≡ Refused k p → s.verdict ≡ Refused l q → Refuses tw cw k p r → Refuses tw cw l q s → r ≡ s
+  refuses_one k p l q er es a b = λ i. record {
     verdict = same i;
     order = zeros_one r.order s.order a.order_none b.order_none i;
     deadlines = zeros_one r.deadlines s.deadlines a.deadlines_none b.deadlines_none i;
@@ -65,17 +65,17 @@ module _ (tw cw : List ℕ) (r s : Plan) where
   }
     where
       one : (k ≡ l) × (p ≡ q)
-      one = refusal-one tw cw k p l q a.because b.because
+      one = refusal_one tw cw k p l q a.because b.because
 
       same : r.verdict ≡ s.verdict
       same = er ∙ (λ i. Refused (one.0 i) (one.1 i)) ∙ sym es
 
-  judges-one : (v w : Verdict) → r.verdict ≡ v → s.verdict ≡ w → Judges tw cw v r → Judges tw cw w s → r ≡ s
-  judges-one Accepted Accepted er es a b = accepts-one (er ∙ sym es) a b
-  judges-one Accepted (Refused k p) er es a b = absurd (refused-not-sound tw cw k p b.because a.sound)
-  judges-one (Refused k p) Accepted er es a b = absurd (refused-not-sound tw cw k p a.because b.sound)
-  judges-one (Refused k p) (Refused l q) er es a b = refuses-one k p l q er es a b
+  judges_one : (v w : Verdict) → r.verdict ≡ v → s.verdict ≡ w → Judges tw cw v r → Judges tw cw w s → r ≡ s
+  judges_one Accepted Accepted er es a b = accepts_one (er ∙ sym es) a b
+  judges_one Accepted (Refused k p) er es a b = absurd (refused-not_sound tw cw k p b.because a.sound)
+  judges_one (Refused k p) Accepted er es a b = absurd (refused-not_sound tw cw k p a.because b.sound)
+  judges_one (Refused k p) (Refused l q) er es a b = refuses_one k p l q er es a b
 
 -- two answers that meet the planner's statement are the same answer
 pub plan_one : (tw cw : List ℕ) (r s : Plan) → PlanIs tw cw r → PlanIs tw cw s → r ≡ s
-plan_one tw cw r s a b = judges-one tw cw r s r.verdict s.verdict refl refl a b
+plan_one tw cw r s a b = judges_one tw cw r s r.verdict s.verdict refl refl a b

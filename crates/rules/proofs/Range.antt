@@ -27,22 +27,22 @@ pub record Sized (s : State) : Type 0 where
 
 -- the times of task i
 pub record Timed (s : State) (i : ℕ) : Type 0 where
-  pub compute-low : 1 ≤ compute s i
-  pub compute-high : compute s i ≤ deadline s i
-  pub deadline-high : deadline s i ≤ period s i
-  pub period-high : period s i ≤ longest_period
+  pub compute_low : 1 ≤ compute s i
+  pub compute_high : compute s i ≤ deadline s i
+  pub deadline_high : deadline s i ≤ period s i
+  pub period_high : period s i ≤ longest_period
 
 -- row c joins tasks
 pub record Joined (s : State) (c : ℕ) : Type 0 where
-  pub sender-task : sender s c < s.count
-  pub receiver-task : receiver s c < s.count
+  pub sender_task : sender s c < s.count
+  pub receiver_task : receiver s c < s.count
 
 pub record Ranged (s : State) : Type 0 where
   pub sizes : Sized s
   pub times : (i : ℕ) → i < s.count → Timed s i
   pub dispatches : (i : ℕ) → i < s.count → dispatch s i < s.multiple
   pub joins : (c : ℕ) → c < s.rows → Joined s c
-  pub names-task : (k : ℕ) → k < s.count → ordered s k < s.count
+  pub names_task : (k : ℕ) → k < s.count → ordered s k < s.count
   pub has_place : (i : ℕ) → i < s.count → place_of s i < s.count
 
 -- ---------------------------------------------------------------------------------------------------------------------------
@@ -62,8 +62,8 @@ and_regroup true b c d = refl
 and_regroup false b c d = refl
 
 module _ (s : State) where
-  pub sizes-facts : sizes_fit s ≡ true → Sized s
-  sizes-facts e =
+  pub sizes_facts : sizes_fit s ≡ true → Sized s
+  sizes_facts e =
       let some = leb 1 s.count in
       let few = leb s.count most_tasks in
       let few_rows = leb s.rows most_rows in
@@ -78,8 +78,8 @@ module _ (s : State) where
         cycle_below = ltb-true _ _ p.3;
       }
 
-  sizes-test : Sized s → sizes_fit s ≡ true
-  sizes-test z =
+  sizes_test : Sized s → sizes_fit s ≡ true
+  sizes_test z =
       all_4 _ _ _ _
       (and_both _ _ (and_both _ _ (le-leb _ _ z.some) (le-leb _ _ z.few)) (le-leb _ _ z.few_rows))
       (le-leb _ _ z.multiple_low)
@@ -90,24 +90,24 @@ module _ (s : State) where
   times-facts i e =
       let p = and_4 (leb 1 (compute s i)) (leb (compute s i) (deadline s i)) (leb (deadline s i) (period s i)) (leb (period s i) longest_period) e in
       record {
-        compute-low = leb-true _ _ p.0;
-        compute-high = leb-true _ _ p.1;
-        deadline-high = leb-true _ _ p.2;
-        period-high = leb-true _ _ p.3;
+        compute_low = leb-true _ _ p.0;
+        compute_high = leb-true _ _ p.1;
+        deadline_high = leb-true _ _ p.2;
+        period_high = leb-true _ _ p.3;
       }
 
   times-test : (i : ℕ) → Timed s i → times_fit s i ≡ true
   times-test i z =
-      all_4 _ _ _ _ (le-leb _ _ z.compute-low) (le-leb _ _ z.compute-high) (le-leb _ _ z.deadline-high) (le-leb _ _ z.period-high)
+      all_4 _ _ _ _ (le-leb _ _ z.compute_low) (le-leb _ _ z.compute_high) (le-leb _ _ z.deadline_high) (le-leb _ _ z.period_high)
 
-  row-facts : (c : ℕ) → row_fits s c ≡ true → Joined s c
-  row-facts c e = record {
-    sender-task = ltb-true _ _ (and_left (ltb (sender s c) s.count) (ltb (receiver s c) s.count) e);
-    receiver-task = ltb-true _ _ (and_right (ltb (sender s c) s.count) (ltb (receiver s c) s.count) e);
+  row_facts : (c : ℕ) → row_fits s c ≡ true → Joined s c
+  row_facts c e = record {
+    sender_task = ltb-true _ _ (and_left (ltb (sender s c) s.count) (ltb (receiver s c) s.count) e);
+    receiver_task = ltb-true _ _ (and_right (ltb (sender s c) s.count) (ltb (receiver s c) s.count) e);
   }
 
-  row-test : (c : ℕ) → Joined s c → row_fits s c ≡ true
-  row-test c z = and_both _ _ (lt-ltb _ _ z.sender-task) (lt-ltb _ _ z.receiver-task)
+  row_test : (c : ℕ) → Joined s c → row_fits s c ≡ true
+  row_test c z = and_both _ _ (lt-ltb _ _ z.sender_task) (lt-ltb _ _ z.receiver_task)
 
   -- the sizes first, then the tables
   pub in_range-parts : in_range s ≡ sizes_fit s && (tasks_fit s && rows_fit s && order_fits s)
@@ -122,26 +122,26 @@ module _ (s : State) where
       let times = all_below (times_fit s) s.count in
       let places = all_below (place_fits s) s.count in
       record {
-        sizes = sizes-facts p.0;
+        sizes = sizes_facts p.0;
         times = λ i h. times-facts i (all_below-at (times_fit s) s.count i (and_left times (all_below (dispatch_fits s) s.count) p.1) h);
         dispatches = λ i h. ltb-true _ _ (all_below-at (dispatch_fits s) s.count i (and_right times (all_below (dispatch_fits s) s.count) p.1) h);
-        joins = λ c h. row-facts c (all_below-at (row_fits s) s.rows c p.2 h);
-        names-task = λ k h. ltb-true _ _ (all_below-at (place_fits s) s.count k (and_left places (all_below (has_place s) s.count) p.3) h);
+        joins = λ c h. row_facts c (all_below-at (row_fits s) s.rows c p.2 h);
+        names_task = λ k h. ltb-true _ _ (all_below-at (place_fits s) s.count k (and_left places (all_below (has_place s) s.count) p.3) h);
         has_place = λ i h. ltb-true _ _ (all_below-at (has_place s) s.count i (and_right places (all_below (has_place s) s.count) p.3) h);
       }
 
   -- and what makes a state one
-  pub ranged-inRange : Ranged s → in_range s ≡ true
+  pub ranged_in_range : Ranged s → in_range s ≡ true
   unfolding in_range
-  ranged-inRange r =
+  ranged_in_range r =
       all_4 (sizes_fit s) (tasks_fit s) (rows_fit s) (order_fits s)
-      (sizes-test r.sizes)
+      (sizes_test r.sizes)
       (and_both _ _
       (all_below-all (times_fit s) s.count (λ i h. times-test i (r.times i h)))
       (all_below-all (dispatch_fits s) s.count (λ i h. lt-ltb _ _ (r.dispatches i h))))
-      (all_below-all (row_fits s) s.rows (λ c h. row-test c (r.joins c h)))
+      (all_below-all (row_fits s) s.rows (λ c h. row_test c (r.joins c h)))
       (and_both _ _
-      (all_below-all (place_fits s) s.count (λ k h. lt-ltb _ _ (r.names-task k h)))
+      (all_below-all (place_fits s) s.count (λ k h. lt-ltb _ _ (r.names_task k h)))
       (all_below-all (has_place s) s.count (λ i h. lt-ltb _ _ (r.has_place i h))))
 
 -- ---------------------------------------------------------------------------------------------------------------------------
@@ -149,45 +149,45 @@ module _ (s : State) where
 
 module _ (s : State) (r : Ranged s) where
   -- the place of a task names it
-  pub placeOf-names : (i : ℕ) → i < s.count → ordered s (place_of s i) ≡ i
-  placeOf-names i h = eqb-true (ordered s (place_of s i)) i (first_of-hit (names s i) s.count (r.has_place i h))
+  pub place_of-names : (i : ℕ) → i < s.count → ordered s (place_of s i) ≡ i
+  place_of-names i h = eqb-true (ordered s (place_of s i)) i (first_of-hit (names s i) s.count (r.has_place i h))
 
   -- were q a second place for the task at p: the places of all tasks, with q after them, are one more than there are places
   places : ℕ → ℕ → ℕ
   places q i = cond (ltb i s.count) (place_of s i) q
 
-  places-task : (q i : ℕ) → i < s.count → places q i ≡ place_of s i
+  places_task : (q i : ℕ) → i < s.count → places q i ≡ place_of s i
   unfolding places
-  places-task q i h = cond_true _ _ _ (lt-ltb i s.count h)
+  places_task q i h = cond_true _ _ _ (lt-ltb i s.count h)
 
-  places-last : (q i : ℕ) → s.count ≤ i → places q i ≡ q
+  places_last : (q i : ℕ) → s.count ≤ i → places q i ≡ q
   unfolding places
-  places-last q i h = cond_false _ _ _ (le-ltb i s.count h)
+  places_last q i h = cond_false _ _ _ (le-ltb i s.count h)
 
-  places-below : (q i : ℕ) → q < s.count → places q i < s.count
-  places-below q i l =
-      ⊎_elim (λ h. rw (places-task q i h) (r.has_place i h)) (λ h. rw (places-last q i h) l) (lt_or i s.count)
+  places_below : (q i : ℕ) → q < s.count → places q i < s.count
+  places_below q i l =
+      ⊎_elim (λ h. rw (places_task q i h) (r.has_place i h)) (λ h. rw (places_last q i h) l) (lt_or i s.count)
 
   no_second : (p q : ℕ) → p < q → q < s.count → ordered s p ≡ ordered s q → ⊥
   no_second p q h l e =
-      let t : Twice (places q) s.count = pigeonhole s.count (places q) (λ i _. places-below q i l) in
+      let t : Twice (places q) s.count = pigeonhole s.count (places q) (λ i _. places_below q i l) in
       let a = t.0 in
       let b = t.1 in
       let ha : a < s.count = omega arith in
-      let same : place_of s a ≡ places q b = sym (places-task q a ha) ∙ t.4 in
+      let same : place_of s a ≡ places q b = sym (places_task q a ha) ∙ t.4 in
       ⊎_elim
       (λ hb.
-      let z : a ≡ b = sym (placeOf-names a ha) ∙ (ap (ordered s) (same ∙ places-task q b hb) ∙ placeOf-names b hb) in
+      let z : a ≡ b = sym (place_of-names a ha) ∙ (ap (ordered s) (same ∙ places_task q b hb) ∙ place_of-names b hb) in
       omega arith)
       (λ hb.
-      let at-q : place_of s a ≡ q = same ∙ places-last q b hb in
-      let named : ordered s p ≡ a = e ∙ (ap (ordered s) (sym at-q) ∙ placeOf-names a ha) in
+      let at-q : place_of s a ≡ q = same ∙ places_last q b hb in
+      let named : ordered s p ≡ a = e ∙ (ap (ordered s) (sym at-q) ∙ place_of-names a ha) in
       let low : place_of s a ≤ p = first_of-least (names s a) s.count p (eq-eqb (ordered s p) a named) in
       omega arith)
       (lt_or b s.count)
 
   -- "names each task once"
-  pub order-once : (p q : ℕ) → p < s.count → q < s.count → ordered s p ≡ ordered s q → p ≡ q
-  order-once p q h l e =
+  pub order_once : (p q : ℕ) → p < s.count → q < s.count → ordered s p ≡ ordered s q → p ≡ q
+  order_once p q h l e =
       ⊎_elim (λ k. absurd (no_second p q k l e))
       (λ k. ⊎_elim (λ z. absurd (no_second q p z h (sym e))) (λ z. omega arith) (lt_or q p)) (lt_or p q)

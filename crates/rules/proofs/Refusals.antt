@@ -14,7 +14,7 @@ use Rattle.rules.specs.Chains.{Link, Acyclic}
 use Rattle.rules.specs.Refusals.{InSize, Joins, Bad, Refusal, Sound, refusals, Never}
 use Rattle.rules.proofs.Tests.{lt_or, eq_or, true_false}
 use Rattle.rules.proofs.Counting.{first_of-hit, first_of-before}
-use Rattle.rules.proofs.Chains.{chain-ends}
+use Rattle.rules.proofs.Chains.{chain_ends}
 
 -- ---------------------------------------------------------------------------------------------------------------------------
 -- Number by number
@@ -29,15 +29,15 @@ module _ (tw cw : List ℕ) where
       ⊎_elim (λ lt. none l q lt b) (λ ge. let e : l ≡ k = omega arith in here q (subst (λ (x : ℕ). Bad tw cw x q) e b)) (lt_or l k)
 
   -- there is no number 0
-  pub none-under-one : NoneUnder tw cw 1
-  none-under-one = none_more 0 (λ l q h. absurd (omega arith)) (λ q b. b)
+  pub none_under_one : NoneUnder tw cw 1
+  none_under_one = none_more 0 (λ l q h. absurd (omega arith)) (λ q b. b)
 
-  pub none-under-two : length tw % task_width ≡ 0 → 0 < length tw → length tw ≤ most_task_words → NoneUnder tw cw 2
-  none-under-two whole some most =
-      none_more 1 none-under-one (λ q b. ⊎_elim (λ x. x whole) (⊎_elim (λ e. omega arith) (λ x. omega arith)) b.1)
+  pub none_under_two : length tw % task_width ≡ 0 → 0 < length tw → length tw ≤ most_task_words → NoneUnder tw cw 2
+  none_under_two whole some most =
+      none_more 1 none_under_one (λ q b. ⊎_elim (λ x. x whole) (⊎_elim (λ e. omega arith) (λ x. omega arith)) b.1)
 
-  pub none-under-three : NoneUnder tw cw 2 → length cw % row_width ≡ 0 → length cw ≤ most_row_words → NoneUnder tw cw 3
-  none-under-three none whole most = none_more 2 none (λ q b. ⊎_elim (λ x. x whole) (λ x. omega arith) b.1)
+  pub none_under_three : NoneUnder tw cw 2 → length cw % row_width ≡ 0 → length cw ≤ most_row_words → NoneUnder tw cw 3
+  none_under_three none whole most = none_more 2 none (λ q b. ⊎_elim (λ x. x whole) (λ x. omega arith) b.1)
 
   -- 8 is the last number of the list
   pub none_at_all : NoneUnder tw cw 9 → Sound tw cw
@@ -55,19 +55,19 @@ module _ (tw cw : List ℕ) where
       (k n : ℕ) (t : ℕ → Bool) (says : (q : ℕ) → Bad tw cw k q → (q < n) × (t q ≡ true))
       (said : (q : ℕ) → (q < n) × (t q ≡ true) → Bad tw cw k q) (none : NoneUnder tw cw k)
     where
-      pub first-refused : first_of t n < n → Refusal tw cw k (first_of t n)
-      first-refused h = record {
+      pub first_refused : first_of t n < n → Refusal tw cw k (first_of t n)
+      first_refused h = record {
         stands = said (first_of t n) (h, first_of-hit t n h);
         first = λ q g b. true_false (sym (says q b).1 ∙ first_of-before t n q g);
         lowest = none;
       }
 
-      pub first-passed : n ≤ first_of t n → NoneUnder tw cw (suc k)
-      first-passed h = none_more k none (λ q b. true_false (sym (says q b).1 ∙ first_of-before t n q (omega (arith, (says q b).0))))
+      pub first_passed : n ≤ first_of t n → NoneUnder tw cw (suc k)
+      first_passed h = none_more k none (λ q b. true_false (sym (says q b).1 ∙ first_of-before t n q (omega (arith, (says q b).0))))
 
   -- one number and one place
-  pub refusal-one : (k p l q : ℕ) → Refusal tw cw k p → Refusal tw cw l q → (k ≡ l) × (p ≡ q)
-  refusal-one k p l q a b = (number, place)
+  pub refusal_one : (k p l q : ℕ) → Refusal tw cw k p → Refusal tw cw l q → (k ≡ l) × (p ≡ q)
+  refusal_one k p l q a b = (number, place)
     where
       number : k ≡ l
       number =
@@ -84,8 +84,8 @@ module _ (tw cw : List ℕ) where
           (λ ge. ⊎_elim (λ gt. absurd (a.first q gt other.stands)) (λ le. omega arith) (lt_or q p))
           (lt_or p q)
 
-  pub refused-not-sound : (k p : ℕ) → Refusal tw cw k p → Sound tw cw → ⊥
-  refused-not-sound k p r s = s k p r.stands
+  pub refused-not_sound : (k p : ℕ) → Refusal tw cw k p → Sound tw cw → ⊥
+  refused-not_sound k p r s = s k p r.stands
 
 -- ---------------------------------------------------------------------------------------------------------------------------
 -- What tables hold
@@ -96,7 +96,7 @@ pub record Lengths (tw cw : List ℕ) : Type 0 where
   pub rows_whole : rows cw * row_width ≡ length cw
   pub some : 0 < count tw
   pub tasks_most : count tw ≤ most_tasks
-  pub rows-most : rows cw ≤ most_rows
+  pub rows_most : rows cw ≤ most_rows
 
 -- 3 and 4 do not stand either
 pub record Tables (tw cw : List ℕ) : Type 0 where
@@ -111,36 +111,36 @@ eq_stable : (a b : ℕ) → ((a ≡ b → ⊥) → ⊥) → a ≡ b
 eq_stable a b nn = ⊎_elim (λ h. h) (λ ne. absurd (nn ne)) (eq_or a b)
 
 module _ (tw cw : List ℕ) where
-  pub lengths-are :
+  pub lengths_are :
       length tw % task_width ≡ 0 → 0 < length tw → length tw ≤ most_task_words → length cw % row_width ≡ 0 → length cw ≤ most_row_words
       → Lengths tw cw
-  lengths-are a b c d e = record {
+  lengths_are a b c d e = record {
     tasks_whole = omega arith;
     rows_whole = omega arith;
     some = omega arith;
     tasks_most = omega arith;
-    rows-most = omega arith;
+    rows_most = omega arith;
   }
 
-  pub lengths-under : NoneUnder tw cw 3 → Lengths tw cw
-  lengths-under none =
-      lengths-are
+  pub lengths_under : NoneUnder tw cw 3 → Lengths tw cw
+  lengths_under none =
+      lengths_are
       (eq_stable _ _ (λ ne. none 1 0 (omega arith) (refl, inl ne)))
       (⊎_elim (λ h. h) (λ z. absurd (none 1 0 (omega arith) (refl, inr (inl (omega arith))))) (lt_or 0 (length tw)))
       (⊎_elim (λ over. absurd (none 1 0 (omega arith) (refl, inr (inr over)))) (λ h. h) (lt_or most_task_words (length tw)))
       (eq_stable _ _ (λ ne. none 2 0 (omega arith) (refl, inl ne)))
       (⊎_elim (λ over. absurd (none 2 0 (omega arith) (refl, inr over))) (λ h. h) (lt_or most_row_words (length cw)))
 
-  sizes-of : NoneUnder tw cw 4 → (i : ℕ) → i < count tw → InSize tw i
-  sizes-of none i h = record {
-    period-low = le_stable _ _ (λ ne. sized (λ s. ne s.period-low));
-    period-high = le_stable _ _ (λ ne. sized (λ s. ne s.period-high));
-    deadline-low = le_stable _ _ (λ ne. sized (λ s. ne s.deadline-low));
-    deadline-high = le_stable _ _ (λ ne. sized (λ s. ne s.deadline-high));
-    compute-low = le_stable _ _ (λ ne. sized (λ s. ne s.compute-low));
-    compute-high = le_stable _ _ (λ ne. sized (λ s. ne s.compute-high));
-    criticality-high = le_stable _ _ (λ ne. sized (λ s. ne s.criticality-high));
-    flag-high = le_stable _ _ (λ ne. sized (λ s. ne s.flag-high));
+  sizes_of : NoneUnder tw cw 4 → (i : ℕ) → i < count tw → InSize tw i
+  sizes_of none i h = record {
+    period_low = le_stable _ _ (λ ne. sized (λ s. ne s.period_low));
+    period_high = le_stable _ _ (λ ne. sized (λ s. ne s.period_high));
+    deadline_low = le_stable _ _ (λ ne. sized (λ s. ne s.deadline_low));
+    deadline_high = le_stable _ _ (λ ne. sized (λ s. ne s.deadline_high));
+    compute_low = le_stable _ _ (λ ne. sized (λ s. ne s.compute_low));
+    compute_high = le_stable _ _ (λ ne. sized (λ s. ne s.compute_high));
+    criticality_high = le_stable _ _ (λ ne. sized (λ s. ne s.criticality_high));
+    flag_high = le_stable _ _ (λ ne. sized (λ s. ne s.flag_high));
   }
     where
       sized : (InSize tw i → ⊥) → ⊥
@@ -148,32 +148,32 @@ module _ (tw cw : List ℕ) where
 
   joins_of : NoneUnder tw cw 5 → (c : ℕ) → c < rows cw → Joins tw cw c
   joins_of none c h = record {
-    sender-task = le_stable _ _ (λ ne. joined (λ s. ne s.sender-task));
-    receiver-task = le_stable _ _ (λ ne. joined (λ s. ne s.receiver-task));
-    kind-known = le_stable _ _ (λ ne. joined (λ s. ne s.kind-known));
+    sender_task = le_stable _ _ (λ ne. joined (λ s. ne s.sender_task));
+    receiver_task = le_stable _ _ (λ ne. joined (λ s. ne s.receiver_task));
+    kind_known = le_stable _ _ (λ ne. joined (λ s. ne s.kind_known));
   }
     where
       joined : (Joins tw cw c → ⊥) → ⊥
       joined ne = none 4 c (omega arith) (h, ne)
 
-  pub tables-under : NoneUnder tw cw 5 → Tables tw cw
-  tables-under none = record {
-    lengths = lengths-under (λ l q h. none l q (omega arith));
-    sizes = sizes-of (λ l q h. none l q (omega arith));
+  pub tables_under : NoneUnder tw cw 5 → Tables tw cw
+  tables_under none = record {
+    lengths = lengths_under (λ l q h. none l q (omega arith));
+    sizes = sizes_of (λ l q h. none l q (omega arith));
     joins = joins_of none;
   }
 
   -- tables that no refusal stands against
-  pub lengths-of : Sound tw cw → Lengths tw cw
-  lengths-of sound = lengths-under (λ l q h. sound l q)
+  pub lengths_of : Sound tw cw → Lengths tw cw
+  lengths_of sound = lengths_under (λ l q h. sound l q)
 
-  pub tables-of : Sound tw cw → Tables tw cw
-  tables-of sound = tables-under (λ l q h. sound l q)
+  pub tables_of : Sound tw cw → Tables tw cw
+  tables_of sound = tables_under (λ l q h. sound l q)
 
   -- an undelayed connection joins tasks
-  pub link-within : Tables tw cw → (i j : ℕ) → Link cw i j → (i < count tw) × (j < count tw)
-  link-within ts i j l = let w = ts.joins l.0 l.1 in (omega (arith, w.sender-task, l.2), omega (arith, w.receiver-task, l.3))
+  pub link_within : Tables tw cw → (i j : ℕ) → Link cw i j → (i < count tw) × (j < count tw)
+  link_within ts i j l = let w = ts.joins l.0 l.1 in (omega (arith, w.sender_task, l.2), omega (arith, w.receiver_task, l.3))
 
   -- tables that 6 does not stand against
-  pub no-circle : Tables tw cw → ((p : ℕ) → Bad tw cw 6 p → ⊥) → Acyclic (Link cw)
-  no-circle ts none i r = none i (chain-ends (Link cw) (count tw) ts.lengths.some (link-within ts) r.0 i i r.1 r.2, r)
+  pub no_circle : Tables tw cw → ((p : ℕ) → Bad tw cw 6 p → ⊥) → Acyclic (Link cw)
+  no_circle ts none i r = none i (chain_ends (Link cw) (count tw) ts.lengths.some (link_within ts) r.0 i i r.1 r.2, r)

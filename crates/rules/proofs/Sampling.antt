@@ -18,45 +18,45 @@ use Rattle.rules.proofs.Tests.{by_test, lt_or}
 
 module _ (P d r : ℕ) (pos : 0 < P) where
   -- the first job that is not counted is past r
-  pub upTo-above : r < up_to P d r * P + d
+  pub up_to-above : r < up_to P d r * P + d
   unfolding up_to
-  upTo-above =
+  up_to-above =
       by_test (ltb r d) (λ e. rw e (omega (arith, ltb-true r d e)))
       (λ e. rw e (omega (arith, ltb-false r d e, div-add-mod' (r - d) P, mod-lt (r - d) pos)))
 
   -- the jobs that are counted are those with j * P + d at most r
-  pub upTo-counted : (j : ℕ) → j < up_to P d r → j * P + d ≤ r
+  pub up_to-counted : (j : ℕ) → j < up_to P d r → j * P + d ≤ r
   unfolding up_to
-  upTo-counted j =
+  up_to-counted j =
       by_test (ltb r d) (λ e. rw e (λ h. absurd (omega arith)))
       (λ e. rw e (λ h. omega (arith, ltb-false r d e, div-add-mod' (r - d) P, mul-le-mul_right P h)))
 
-  pub upTo-counts : (j : ℕ) → j * P + d ≤ r → j < up_to P d r
-  upTo-counts j h = elim (lt_or j (up_to P d r)) [ inl l ↦ l | inr l ↦ absurd (omega (arith, upTo-above, mul-le-mul_right P l)) ]
+  pub up_to-counts : (j : ℕ) → j * P + d ≤ r → j < up_to P d r
+  up_to-counts j h = elim (lt_or j (up_to P d r)) [ inl l ↦ l | inr l ↦ absurd (omega (arith, up_to-above, mul-le-mul_right P l)) ]
 
   -- 01: "the sender's last job whose dispatch plus deadline is at most r" is the one before the count; "0 if there is none"
-  pub upTo-last : (k : ℕ) → up_to P d r ≡ suc k → (k * P + d ≤ r) × (r < suc k * P + d) × ((j : ℕ) → j * P + d ≤ r → j ≤ k)
-  upTo-last k e =
-      (upTo-counted k (omega arith), omega (arith, upTo-above, ap (λ (u : ℕ). u * P) e), λ j h. omega (arith, upTo-counts j h))
+  pub up_to-last : (k : ℕ) → up_to P d r ≡ suc k → (k * P + d ≤ r) × (r < suc k * P + d) × ((j : ℕ) → j * P + d ≤ r → j ≤ k)
+  up_to-last k e =
+      (up_to-counted k (omega arith), omega (arith, up_to-above, ap (λ (u : ℕ). u * P) e), λ j h. omega (arith, up_to-counts j h))
 
-  pub upTo-none : up_to P d r ≡ 0 → (j : ℕ) → j * P + d ≤ r → ⊥
-  upTo-none e j h = omega (arith, upTo-counts j h)
+  pub up_to-none : up_to P d r ≡ 0 → (j : ℕ) → j * P + d ≤ r → ⊥
+  up_to-none e j h = omega (arith, up_to-counts j h)
 
-  pub none-upTo : ((j : ℕ) → j * P + d ≤ r → ⊥) → up_to P d r ≡ 0
-  none-upTo n = elim (lt_or 0 (up_to P d r)) [ inl l ↦ absurd (n 0 (upTo-counted 0 l)) | inr l ↦ omega arith ]
+  pub none_up_to : ((j : ℕ) → j * P + d ≤ r → ⊥) → up_to P d r ≡ 0
+  none_up_to n = elim (lt_or 0 (up_to P d r)) [ inl l ↦ absurd (n 0 (up_to-counted 0 l)) | inr l ↦ omega arith ]
 
   -- the last job that is counted is not past r
-  pub upTo-within : d ≤ P → up_to P d r * P + d ≤ r + P
-  upTo-within dp = go (up_to P d r) refl
+  pub up_to-within : d ≤ P → up_to P d r * P + d ≤ r + P
+  up_to-within dp = go (up_to P d r) refl
     where
       go : (u : ℕ) → up_to P d r ≡ u → u * P + d ≤ r + P
       go zero e = omega arith
-      go (suc k) e = omega (arith, upTo-counted k (omega arith))
+      go (suc k) e = omega (arith, up_to-counted k (omega arith))
 
 pub up_to-mono : (P d r q : ℕ) → 0 < P → d ≤ P → r ≤ q → up_to P d r ≤ up_to P d q
 up_to-mono P d r q pos dp l =
     elim (lt_or (up_to P d q) (up_to P d r)) [
-      | inl m ↦ absurd (omega (arith, upTo-counts P d q pos (up_to P d q) (omega (arith, upTo-counted P d r pos (up_to P d q) m))))
+      | inl m ↦ absurd (omega (arith, up_to-counts P d q pos (up_to P d q) (omega (arith, up_to-counted P d r pos (up_to P d q) m))))
       | inr m ↦ m
     ]
 

@@ -18,7 +18,7 @@ use Rattle.rules.specs.declared.Step.{Step}
 use Rattle.rules.specs.declared.Answer.{Answer}
 use Rattle.rules.specs.declared.Answer.TheVariants as answer
 use Rattle.rules.proofs.Tests.{cond_map, cond_same, cond_by, cond_true, cond_false}
-use Rattle.rules.proofs.Counting.{mapBelow-at}
+use Rattle.rules.proofs.Counting.{map_below-at}
 
 abbrev phase_in : Task → Phase
 phase_in k = k.phase
@@ -48,7 +48,7 @@ delivered-dispatch s i = refl
 
 pub delivered-buffer : (s : State) (c : ℕ) → c < s.rows → c < length s.buffers → buffer (delivered s) c ≡ delivers s c (buffer s c)
 unfolding delivered
-delivered-buffer s c h l = mapBelow-at (delivers s) s.rows s.buffers c 0 h l
+delivered-buffer s c h l = map_below-at (delivers s) s.rows s.buffers c 0 h l
 
 pub delivered-input : (s : State) (c : ℕ) → input (delivered s) c ≡ input s c
 unfolding delivered
@@ -65,7 +65,7 @@ pub dispatched-phase : (s : State) (i : ℕ) → i < s.count → i < length s.ta
     phase_of (dispatched s) i ≡ cond (released s i) phase.Waiting (phase_of s i)
 unfolding dispatched
 dispatched-phase s i h l =
-    ap phase_in (mapBelow-at (wakes s) s.count s.tasks i (task_in phase.Idle) h l)
+    ap phase_in (map_below-at (wakes s) s.count s.tasks i (task_in phase.Idle) h l)
     ∙ cond_map phase_in (released s i) (task_in phase.Waiting) (get_or s.tasks i (task_in phase.Idle))
 
 pub dispatched-output : (s : State) (i : ℕ) → output (dispatched s) i ≡ output s i
@@ -75,7 +75,7 @@ dispatched-output s i = refl
 pub dispatched-dispatch : (s : State) (i : ℕ) → i < s.count → i < length s.dispatches →
     dispatch (dispatched s) i ≡ records s i (dispatch s i)
 unfolding dispatched
-dispatched-dispatch s i h l = mapBelow-at (records s) s.count s.dispatches i 0 h l
+dispatched-dispatch s i h l = map_below-at (records s) s.count s.dispatches i 0 h l
 
 pub dispatched-buffer : (s : State) (c : ℕ) → buffer (dispatched s) c ≡ buffer s c
 unfolding dispatched
@@ -83,7 +83,7 @@ dispatched-buffer s c = refl
 
 pub dispatched-input : (s : State) (c : ℕ) → c < s.rows → c < length s.inputs → input (dispatched s) c ≡ samples s c (input s c)
 unfolding dispatched
-dispatched-input s c h l = mapBelow-at (samples s) s.rows s.inputs c 0 h l
+dispatched-input s c h l = map_below-at (samples s) s.rows s.inputs c 0 h l
 
 -- ---------------------------------------------------------------------------------------------------------------------------
 -- A start changes the phase of its task and the inputs of rows.
@@ -114,7 +114,7 @@ started_at-buffer s i c = refl
 
 pub started_at-input : (s : State) (i c : ℕ) → c < s.rows → c < length s.inputs → input (started_at s i) c ≡ takes s i c (input s c)
 unfolding started_at
-started_at-input s i c h l = mapBelow-at (takes s i) s.rows s.inputs c 0 h l
+started_at-input s i c h l = map_below-at (takes s i) s.rows s.inputs c 0 h l
 
 -- ---------------------------------------------------------------------------------------------------------------------------
 -- Step 4 answers who runs, and starts it if it waits.
@@ -248,7 +248,7 @@ ended_at-dispatch s i w j = refl
 
 pub ended_at-buffer : (s : State) (i w c : ℕ) → c < s.rows → c < length s.buffers → buffer (ended_at s i w) c ≡ posts s i w c (buffer s c)
 unfolding ended_at
-ended_at-buffer s i w c h l = mapBelow-at (posts s i w) s.rows s.buffers c 0 h l
+ended_at-buffer s i w c h l = map_below-at (posts s i w) s.rows s.buffers c 0 h l
 
 pub ended_at-input : (s : State) (i w c : ℕ) → input (ended_at s i w) c ≡ input s c
 unfolding ended_at

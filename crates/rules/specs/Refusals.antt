@@ -8,20 +8,20 @@ use Rattle.rules.specs.Order.{Common}
 
 -- the values of task i are within their sizes
 pub record InSize (tw : List ℕ) (i : ℕ) : Type 0 where
-  pub period-low : 1 ≤ period tw i
-  pub period-high : period tw i ≤ longest_period
-  pub deadline-low : 1 ≤ deadline tw i
-  pub deadline-high : deadline tw i ≤ period tw i
-  pub compute-low : 1 ≤ compute tw i
-  pub compute-high : compute tw i ≤ deadline tw i
-  pub criticality-high : criticality tw i ≤ least_critical
-  pub flag-high : flag tw i ≤ 1
+  pub period_low : 1 ≤ period tw i
+  pub period_high : period tw i ≤ longest_period
+  pub deadline_low : 1 ≤ deadline tw i
+  pub deadline_high : deadline tw i ≤ period tw i
+  pub compute_low : 1 ≤ compute tw i
+  pub compute_high : compute tw i ≤ deadline tw i
+  pub criticality_high : criticality tw i ≤ least_critical
+  pub flag_high : flag tw i ≤ 1
 
 -- the sender and the receiver of row c are tasks, and its kind is known
 pub record Joins (tw cw : List ℕ) (c : ℕ) : Type 0 where
-  pub sender-task : sender cw c < count tw
-  pub receiver-task : receiver cw c < count tw
-  pub kind-known : kind cw c ≤ 1
+  pub sender_task : sender cw c < count tw
+  pub receiver_task : receiver cw c < count tw
+  pub kind_known : kind cw c ≤ 1
 
 -- "undelayed, and neither period divides the other"
 pub record Uneven (tw cw : List ℕ) (c : ℕ) : Type 0 where

@@ -44,18 +44,18 @@ kind a = (answer_says a).kind
 
 -- by the answer of the start: its line alone, or all calls answered
 module _ (r : Step) (input printed : List ℕ) where
-  run-text : (a : Answer) → ((a ≡ answer.Idle → ⊥) → printed ≡ answer_line a) → (a ≡ answer.Idle → printed ≡ whole (moment r.state []) input) → printed ≡ run_text r a input
+  run_text_lem : (a : Answer) → ((a ≡ answer.Idle → ⊥) → printed ≡ answer_line a) → (a ≡ answer.Idle → printed ≡ whole (moment r.state []) input) → printed ≡ run_text r a input
   unfolding run_text
-  run-text answer.Idle alone answered = answered refl ∙ session_bytes r.state input
-  run-text (answer.Running i) alone answered = alone (λ e. omega (arith, ap kind e))
-  run-text (answer.Missed i) alone answered = alone (λ e. omega (arith, ap kind e))
-  run-text (answer.Refused n p) alone answered = alone (λ e. omega (arith, ap kind e))
+  run_text_lem answer.Idle alone answered = answered refl ∙ session_bytes r.state input
+  run_text_lem (answer.Running i) alone answered = alone (λ e. omega (arith, ap kind e))
+  run_text_lem (answer.Missed i) alone answered = alone (λ e. omega (arith, ap kind e))
+  run_text_lem (answer.Refused n p) alone answered = alone (λ e. omega (arith, ap kind e))
 
 -- accepted or refused, with 643 bytes of the file read or more, and in whatever pieces the input came: a run prints what 01 says
 pub run_served : (m : ℕ) (file : List ℕ) {pieces : List (List ℕ)} {printed : List ℕ} → decisive ≤ m → Ran (take m file) pieces printed → RunIs file (flatten pieces) printed
 run_served m file {pieces} {printed} h r = (
   r.start,
   open_front m file r.start h r.opened,
-  run-text r.start (flatten pieces) printed r.start.answer (λ other. says_line (r.alone other))
+  run_text_lem r.start (flatten pieces) printed r.start.answer (λ other. says_line (r.alone other))
       (λ idle. let a = r.answered idle in served_whole a.2 ∙ ap (λ (k : Moment). whole k (flatten pieces)) a.1),
 )

@@ -79,22 +79,22 @@ module _ (s : State) (line : List ℕ) (b : ℕ) (input : List ℕ) where
   abbrev behind : State
   behind = (obeyed s (call_of line)).state
 
-  line-ends : ends b ≡ true → by_bytes behind [] input ≡ by_lines behind [] input → by_bytes s line (b ∷ input) ≡ by_lines s line (b ∷ input)
+  line_ends : ends b ≡ true → by_bytes behind [] input ≡ by_lines behind [] input → by_bytes s line (b ∷ input) ≡ by_lines s line (b ∷ input)
   unfolding text after next printed answers_to lines_from
-  line-ends e more =
+  line_ends e more =
       rw (e, kept_answered s line)
       (append_assoc (obeyed s (call_of line)).line (text (moment behind []) input) (last (after (moment behind []) input))
       ∙ ap (λ (l : List ℕ). (obeyed s (call_of line)).line ++ l) more)
 
-  line-goes-on : ends b ≡ false → by_bytes s (line ++ (b ∷ [])) input ≡ by_lines s (line ++ (b ∷ [])) input → by_bytes s line (b ∷ input) ≡ by_lines s line (b ∷ input)
+  line_goes_on : ends b ≡ false → by_bytes s (line ++ (b ∷ [])) input ≡ by_lines s (line ++ (b ∷ [])) input → by_bytes s line (b ∷ input) ≡ by_lines s line (b ∷ input)
   unfolding text after next printed lines_from
-  line-goes-on e more = rw (e, kept_more line b) more
+  line_goes_on e more = rw (e, kept_more line b) more
 
 bytes-lines : (input : List ℕ) (s : State) (line : List ℕ) → by_bytes s line input ≡ by_lines s line input
 bytes-lines [] s line = at-end s line
 bytes-lines (b ∷ input) s line =
-    by_test (ends b) (λ e. line-ends s line b input e (bytes-lines input (obeyed s (call_of line)).state []))
-    (λ e. line-goes-on s line b input e (bytes-lines input s (line ++ (b ∷ []))))
+    by_test (ends b) (λ e. line_ends s line b input e (bytes-lines input (obeyed s (call_of line)).state []))
+    (λ e. line_goes_on s line b input e (bytes-lines input s (line ++ (b ∷ []))))
 
 -- the bytes of an input, one by one, with the end's line, print what its lines print
 pub session_bytes : (s : State) (input : List ℕ) → text (moment s []) input ++ last (after (moment s []) input) ≡ session_text s input

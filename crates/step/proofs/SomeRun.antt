@@ -96,5 +96,5 @@ module _ (seen : List ℕ) (pieces : List (List ℕ)) (r : Step) (o : OpenIs see
   by_answer (answer.Missed i) e = said-run (λ idle. omega (arith, ap kind (sym e ∙ idle)))
   by_answer (answer.Refused n p) e = said-run (λ idle. omega (arith, ap kind (sym e ∙ idle)))
 
-  pub run-some : (printed : List ℕ) × Ran seen pieces printed
-  run-some = by_answer r.answer refl
+  pub run_some : (printed : List ℕ) × Ran seen pieces printed
+  run_some = by_answer r.answer refl

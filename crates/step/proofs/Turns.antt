@@ -51,8 +51,8 @@ module _ {bytes out₀ out : List ℕ} {m : Moment} {state : State} {line : List
   abbrev b : ℕ
   b = get_or bytes i 0
 
-  pub turn-ends : (out' line' : List ℕ) (r : Obeyed) → b ≡ 10 → Prints (obeyed state (call_of line)) out end r out' → length out' ≡ length out → line' ≡ [] → Turn bytes out₀ m out' r.state line' r.end (i + 1)
-  turn-ends out' line' r e p kept none = record {
+  pub turn_ends : (out' line' : List ℕ) (r : Obeyed) → b ≡ 10 → Prints (obeyed state (call_of line)) out end r out' → length out' ≡ length out → line' ≡ [] → Turn bytes out₀ m out' r.state line' r.end (i + 1)
+  turn_ends out' line' r e p kept none = record {
     within = omega arith;
     room = kept ∙ t.room;
     here = rw (none, p.state, after_more m bytes i more, sym t.here) (sym (next-ends (moment state line) b e));
@@ -60,8 +60,8 @@ module _ {bytes out₀ out : List ℕ} {m : Moment} {state : State} {line : List
         rw (text-more m bytes i more, sym t.here, printed-ends (moment state line) b e) (put_more (omega arith) (put_then t.lines p.line));
   }
 
-  pub turn-keeps : (line' : List ℕ) → (b ≡ 10 → ⊥) → line' ≡ keeping line b → Turn bytes out₀ m out state line' end (i + 1)
-  turn-keeps line' e k = record {
+  pub turn_keeps : (line' : List ℕ) → (b ≡ 10 → ⊥) → line' ≡ keeping line b → Turn bytes out₀ m out state line' end (i + 1)
+  turn_keeps line' e k = record {
     within = omega arith;
     room = t.room;
     here = rw (k, after_more m bytes i more, sym t.here) (sym (next-keeps (moment state line) b e));

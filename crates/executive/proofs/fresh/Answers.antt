@@ -10,7 +10,7 @@ use Rattle.rules.specs.declared.State.{State}
 use Rattle.rules.specs.declared.Verdict.{Verdict}
 use Rattle.rules.specs.declared.Verdict.TheVariants as verdict
 use Rattle.rules.proofs.Answers.{step-refl}
-use Rattle.rules.proofs.Refusals.{tables-of}
+use Rattle.rules.proofs.Refusals.{tables_of}
 use Rattle.executive.specs.Start.{Tabled}
 use Rattle.executive.proofs.fresh.Goals as goal
 
@@ -29,17 +29,17 @@ module _ (tw cw : List ℕ) (p : Plan) (v : Verdict) where
 -- what the planner accepts fits the columns
 tabled : (tw cw : List ℕ) (p : Plan) → Accepts tw cw p → Tabled tw cw
 tabled tw cw p a =
-    let t = tables-of tw cw a.sound in
+    let t = tables_of tw cw a.sound in
     let l = t.lengths in
     record {
       few = l.tasks_most;
-      few_rows = l.rows-most;
+      few_rows = l.rows_most;
       whole = omega (arith, l.tasks_whole);
       whole_rows = omega (arith, l.rows_whole);
-      bytes = λ i h. (t.sizes i h).criticality-high;
+      bytes = λ i h. (t.sizes i h).criticality_high;
       ends = record {
-        sends = λ c h. omega (arith, (t.joins c h).sender-task, l.tasks_most);
-        receives = λ c h. omega (arith, (t.joins c h).receiver-task, l.tasks_most);
+        sends = λ c h. omega (arith, (t.joins c h).sender_task, l.tasks_most);
+        receives = λ c h. omega (arith, (t.joins c h).receiver_task, l.tasks_most);
       };
     }
 

@@ -8,7 +8,7 @@ use Rattle.rules.specs.Range.{in_range}
 use Rattle.rules.specs.Runs.{Call, tick, complete, Moment, start, next, after}
 use Rattle.rules.proofs.Calls.{tick_keeps_range, complete_keeps_range}
 use Rattle.rules.proofs.Runs.Choice.{Settled}
-use Rattle.rules.proofs.Runs.Invariant.{Planned, run-invariant}
+use Rattle.rules.proofs.Runs.Invariant.{Planned, run_invariant}
 
 after-in_range : (cs : List Call) (m : Moment) → in_range m.state ≡ true → in_range (after m cs).state ≡ true
 after-in_range [] m e = e
@@ -16,8 +16,8 @@ after-in_range (tick ∷ cs) m e = after-in_range cs (next m tick) (tick_keeps_r
 after-in_range (complete w ∷ cs) m e = after-in_range cs (next m (complete w)) (complete_keeps_range m.state w e)
 
 module _ (s : State) (pl : Planned s) where
-  pub always-in-range : (cs : List Call) → in_range (after (start s) cs).state ≡ true
-  always-in-range cs = after-in_range cs (start s) pl.in_range
+  pub always_in_range : (cs : List Call) → in_range (after (start s) cs).state ≡ true
+  always_in_range cs = after-in_range cs (start s) pl.in_range
 
-  pub always-settled : (cs : List Call) → (after (start s) cs).state.halted ≡ false → Settled (after (start s) cs).state
-  always-settled cs h = (run-invariant s pl cs h).settled
+  pub always_settled : (cs : List Call) → (after (start s) cs).state.halted ≡ false → Settled (after (start s) cs).state
+  always_settled cs h = (run_invariant s pl cs h).settled

@@ -7,7 +7,7 @@ use native.Mathlib.Nat.{div-add-mod', mul-add-mod_self_right, mul-mod_left, mod-
 use native.Mathlib.Omega.{arith}
 use Rattle.rules.specs.Sampling.{up_to}
 use Rattle.rules.proofs.Tests.{lt_or}
-use Rattle.rules.proofs.Sampling.{upTo-above, upTo-within, up_to-mono, same_count}
+use Rattle.rules.proofs.Sampling.{up_to-above, up_to-within, up_to-mono, same_count}
 
 -- how many jobs j have j * P + d at a tick before T
 abbrev pub before : ℕ → ℕ → ℕ → ℕ
@@ -35,11 +35,11 @@ spaced P a b ea eb l =
 -- the bounds of `up_to`, for the ticks before T
 pub before_above : (P d T : ℕ) → 0 < P → T ≤ before P d T * P + d
 before_above P d zero pos = omega arith
-before_above P d (suc now) pos = omega (arith, upTo-above P d now pos)
+before_above P d (suc now) pos = omega (arith, up_to-above P d now pos)
 
 pub before-within : (P d T : ℕ) → 0 < P → d ≤ P → 0 < T → before P d T * P + d < T + P
 before-within P d zero pos dp h = omega arith
-before-within P d (suc now) pos dp h = omega (arith, upTo-within P d now pos dp)
+before-within P d (suc now) pos dp h = omega (arith, up_to-within P d now pos dp)
 
 pub dispatches_within : (P T : ℕ) → 0 < P → before P 0 T * P + 0 < T + P
 dispatches_within P zero pos = omega arith
@@ -50,16 +50,16 @@ module _ (P d T : ℕ) (pos : 0 < P) (dp : d ≤ P) (within : before P d T * P +
   pub hit : T % P ≡ d % P → T ≡ before P d T * P + d
   hit e = same-mod P T (before P d T * P + d) (before_above P d T pos) within (e ∙ sym (mul-add-mod_self_right (before P d T) P d))
 
-  pub hit-more : T % P ≡ d % P → up_to P d T ≡ suc (before P d T)
-  hit-more e =
-      same_count P (up_to P d T) (suc (before P d T)) (omega (arith, hit e, upTo-within P d T pos dp))
-      (omega (arith, hit e, upTo-above P d T pos))
+  pub hit_more : T % P ≡ d % P → up_to P d T ≡ suc (before P d T)
+  hit_more e =
+      same_count P (up_to P d T) (suc (before P d T)) (omega (arith, hit e, up_to-within P d T pos dp))
+      (omega (arith, hit e, up_to-above P d T pos))
 
   pub no_hit : (T % P ≡ d % P → ⊥) → up_to P d T ≡ before P d T
   no_hit n = go (lt_or T (before P d T * P + d))
     where
       go : (T < before P d T * P + d) ⊎ (before P d T * P + d ≤ T) → up_to P d T ≡ before P d T
-      go (inl l) = same_count P (up_to P d T) (before P d T) (omega (arith, upTo-within P d T pos dp)) (omega (arith, upTo-above P d T pos))
+      go (inl l) = same_count P (up_to P d T) (before P d T) (omega (arith, up_to-within P d T pos dp)) (omega (arith, up_to-above P d T pos))
       go (inr l) = absurd (n (ap (λ (x : ℕ). x % P) at ∙ mul-add-mod_self_right (before P d T) P d))
         where
           at : T ≡ before P d T * P + d
@@ -67,7 +67,7 @@ module _ (P d T : ℕ) (pos : 0 < P) (dp : d ≤ P) (within : before P d T * P +
 
 -- "except at the first tick of all"
 pub no_deadline : (P D T : ℕ) → 0 < P → 0 < D → D ≤ P → (0 < T → T % P ≡ D % P → ⊥) → up_to P D T ≡ before P D T
-no_deadline P D zero pos dpos dp n = same_count P (up_to P D 0) 0 (omega (arith, upTo-within P D 0 pos dp)) (omega arith)
+no_deadline P D zero pos dpos dp n = same_count P (up_to P D 0) 0 (omega (arith, up_to-within P D 0 pos dp)) (omega arith)
 no_deadline P D (suc now) pos dpos dp n =
     no_hit P D (suc now) pos dp (before-within P D (suc now) pos dp (omega arith)) (n (omega arith))
 
@@ -85,12 +85,12 @@ pub slower : (Ps Pr T : ℕ) → 0 < Ps → Pr ∣ Ps → T % Pr ≡ 0 → (T % 
 slower Ps Pr T ps e m n = go (up_to Ps 0 T) refl
   where
     go : (u : ℕ) → up_to Ps 0 T ≡ u → up_to Ps 0 (T - Pr) ≡ up_to Ps 0 T
-    go zero q = absurd (omega (arith, upTo-above Ps 0 T ps, ap (λ (x : ℕ). x * Ps) q))
+    go zero q = absurd (omega (arith, up_to-above Ps 0 T ps, ap (λ (x : ℕ). x * Ps) q))
     go (suc v) q =
-        let above : T < suc v * Ps = omega (arith, upTo-above Ps 0 T ps, ap (λ (x : ℕ). x * Ps) q) in
-        let within : suc v * Ps ≤ T + Ps = omega (arith, upTo-within Ps 0 T ps (omega arith), ap (λ (x : ℕ). x * Ps) q) in
+        let above : T < suc v * Ps = omega (arith, up_to-above Ps 0 T ps, ap (λ (x : ℕ). x * Ps) q) in
+        let within : suc v * Ps ≤ T + Ps = omega (arith, up_to-within Ps 0 T ps (omega arith), ap (λ (x : ℕ). x * Ps) q) in
         let off : v * Ps ≡ T → ⊥ = λ h. n (ap (λ (x : ℕ). x % Ps) (sym h) ∙ mul-mod_left v Ps) in
         let vm : v * Ps % Pr ≡ 0 = mod-eq-zero_of_dvd Pr (dvd-mul_left_of_dvd Pr e v) in
         let apart : v * Ps + Pr ≤ T = spaced Pr (v * Ps) T vm m (omega arith) in
-        same_count Ps (up_to Ps 0 (T - Pr)) (suc v) (omega (arith, upTo-within Ps 0 (T - Pr) ps (omega arith)))
-        (omega (arith, upTo-above Ps 0 (T - Pr) ps)) ∙ sym q
+        same_count Ps (up_to Ps 0 (T - Pr)) (suc v) (omega (arith, up_to-within Ps 0 (T - Pr) ps (omega arith)))
+        (omega (arith, up_to-above Ps 0 (T - Pr) ps)) ∙ sym q

@@ -29,10 +29,10 @@ spoke m w = record {
 }
 
 module _ (Q : Moment → Type 0) (m : Moment) where
-  pub tick-by : Q m → (m.state.halted ≡ false → Q (missed m)) →
+  pub tick_by : Q m → (m.state.halted ≡ false → Q (missed m)) →
       (m.state.halted ≡ false → ltb (missing m.state) m.state.count ≡ false → Q (ticked m)) → Q (next m tick)
   unfolding ticking
-  tick-by q miss pass =
+  tick_by q miss pass =
       judged-by (λ z. Q (after-tick m z)) (in_range m.state) m.state.halted m.state (ticking m.state) (λ _. q)
       (λ _ h. cond_by (λ z. Q (after-tick m z)) (ltb (missing m.state) m.state.count) _ _ (λ _. miss h) (λ e. went (pass h e)))
     where
@@ -50,7 +50,7 @@ module _ (Q : Moment → Type 0) (m : Moment) where
 
 -- a halted state stays
 pub stays : (m : Moment) (c : Call) → m.state.halted ≡ true → next m c ≡ m
-stays m tick h = tick-by (λ k. k ≡ m) m refl (λ n. absurd (true_false (sym h ∙ n))) (λ n _. absurd (true_false (sym h ∙ n)))
+stays m tick h = tick_by (λ k. k ≡ m) m refl (λ n. absurd (true_false (sym h ∙ n))) (λ n _. absurd (true_false (sym h ∙ n)))
 stays m (complete w) h = word-by (λ k. k ≡ m) m w refl (λ n _. absurd (true_false (sym h ∙ n)))
 
 pub halted_after : (cs : List Call) (m : Moment) → m.state.halted ≡ true → after m cs ≡ m

@@ -21,11 +21,11 @@ use Rattle.rules.proofs.Runs.OneRow.{DelayedFact, UndelayedFact, Ends}
 pub record Laid (s : State) : Type 0 where
   pub paced : (i : ℕ) → i < s.count → Paced (period s i) (deadline s i) s.multiple
   pub multiple_pos : 0 < s.multiple
-  pub names-task : (k : ℕ) → k < s.count → ordered s k < s.count
+  pub names_task : (k : ℕ) → k < s.count → ordered s k < s.count
   pub has_place : (i : ℕ) → i < s.count → place_of s i < s.count
-  pub sender-in : (c : ℕ) → c < s.rows → sender s c < s.count
-  pub receiver-in : (c : ℕ) → c < s.rows → receiver s c < s.count
-  pub sender-first : (c : ℕ) → c < s.rows → undelayed s c ≡ true → place_of s (sender s c) < place_of s (receiver s c)
+  pub sender_in : (c : ℕ) → c < s.rows → sender s c < s.count
+  pub receiver_in : (c : ℕ) → c < s.rows → receiver s c < s.count
+  pub sender_first : (c : ℕ) → c < s.rows → undelayed s c ≡ true → place_of s (sender s c) < place_of s (receiver s c)
   pub harmonic : (c : ℕ) → c < s.rows → undelayed s c ≡ true →
       (period s (sender s c) ∣ period s (receiver s c)) ⊎ (period s (receiver s c) ∣ period s (sender s c))
 
@@ -33,11 +33,11 @@ laid_moved : (s : State) (ts : List Task) (os ds bs is : List ℕ) (t : ℕ) (k 
 laid_moved s ts os ds bs is t k h l = record {
   paced = l.paced;
   multiple_pos = l.multiple_pos;
-  names-task = l.names-task;
+  names_task = l.names_task;
   has_place = l.has_place;
-  sender-in = l.sender-in;
-  receiver-in = l.receiver-in;
-  sender-first = l.sender-first;
+  sender_in = l.sender_in;
+  receiver_in = l.receiver_in;
+  sender_first = l.sender_first;
   harmonic = l.harmonic;
 }
 
@@ -80,7 +80,7 @@ pub record Parts (T : ℕ) (W : ℕ → List ℕ) (s : State) : Type 0 where
       TaskFact (period s i) (deadline s i) s.multiple T (W i) (phase_of s i) (output s i) (dispatch s i)
   pub delayed_kept : (c : ℕ) → c < s.rows → undelayed s c ≡ false →
       DelayedRow T W s c (phase_of s (receiver s c)) (buffer s c) (input s c)
-  pub undelayed-kept : (c : ℕ) → c < s.rows → undelayed s c ≡ true →
+  pub undelayed_kept : (c : ℕ) → c < s.rows → undelayed s c ≡ true →
       UndelayedRow T W s c (phase_of s (receiver s c)) (buffer s c) (input s c)
 
 -- the two tasks of row c
@@ -94,10 +94,10 @@ module _ {T : ℕ} {W : ℕ → List ℕ} {s : State} (p : Parts T W s) (c : ℕ
   pub ends : Ends (period s S) (deadline s S) (period s R) (deadline s R) s.multiple T (W S) (W R) (phase_of s S) (phase_of s R)
       (output s S) (output s R) (dispatch s S) (dispatch s R)
   ends = record {
-    sender-paced = p.laid.paced S (p.laid.sender-in c h);
-    receiver-paced = p.laid.paced R (p.laid.receiver-in c h);
-    sender-fact = p.task_kept S (p.laid.sender-in c h);
-    receiver-fact = p.task_kept R (p.laid.receiver-in c h);
+    sender_paced = p.laid.paced S (p.laid.sender_in c h);
+    receiver_paced = p.laid.paced R (p.laid.receiver_in c h);
+    sender_fact = p.task_kept S (p.laid.sender_in c h);
+    receiver_fact = p.task_kept R (p.laid.receiver_in c h);
   }
 
 -- the clock of a state

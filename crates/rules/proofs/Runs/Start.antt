@@ -22,9 +22,9 @@ use Rattle.rules.specs.Views.{idle, task_in, period, deadline, compute, sender, 
 use Rattle.rules.specs.Range.{names, place_of}
 use Rattle.rules.proofs.Tests.{lt_or, eq_or}
 use Rattle.rules.proofs.Counting.{column-at, column-past, first_of-least}
-use Rattle.rules.proofs.Range.{Ranged, ranged-inRange, placeOf-names}
-use Rattle.rules.proofs.Refusals.{Tables, tables-of}
-use Rattle.rules.proofs.Order.{sender-before-receiver}
+use Rattle.rules.proofs.Range.{Ranged, ranged_in_range, place_of-names}
+use Rattle.rules.proofs.Refusals.{Tables, tables_of}
+use Rattle.rules.proofs.Order.{sender-before_receiver}
 use Rattle.rules.proofs.Runs.Parts.{Fits}
 use Rattle.rules.proofs.Runs.Invariant.{Planned}
 
@@ -38,7 +38,7 @@ rests_at z places k = column-past (λ _. z) 0 z places k (omega arith)
 
 module _ (tw cw : List ℕ) (p : Plan) (a : Accepts tw cw p) where
   t : Tables tw cw
-  t = tables-of tw cw a.sound
+  t = tables_of tw cw a.sound
 
   abbrev s : State
   s = fresh_state tw cw p
@@ -49,9 +49,9 @@ module _ (tw cw : List ℕ) (p : Plan) (a : Accepts tw cw p) where
     unfolding fresh_state
     period-is = column-at (table.period tw) (table.count tw) 0 most_tasks i h t.lengths.tasks_most
 
-    pub deadline-is : deadline s i ≡ table.deadline tw i
+    pub deadline_is : deadline s i ≡ table.deadline tw i
     unfolding fresh_state
-    deadline-is = column-at (table.deadline tw) (table.count tw) 0 most_tasks i h t.lengths.tasks_most
+    deadline_is = column-at (table.deadline tw) (table.count tw) 0 most_tasks i h t.lengths.tasks_most
 
     compute-is : compute s i ≡ table.compute tw i
     unfolding fresh_state
@@ -60,17 +60,17 @@ module _ (tw cw : List ℕ) (p : Plan) (a : Accepts tw cw p) where
   module _ (c : ℕ) (h : c < table.rows cw) where
     pub sender-is : sender s c ≡ table.sender cw c
     unfolding fresh_state
-    sender-is = column-at (table.sender cw) (table.rows cw) 0 most_rows c h t.lengths.rows-most
+    sender-is = column-at (table.sender cw) (table.rows cw) 0 most_rows c h t.lengths.rows_most
 
     pub receiver-is : receiver s c ≡ table.receiver cw c
     unfolding fresh_state
-    receiver-is = column-at (table.receiver cw) (table.rows cw) 0 most_rows c h t.lengths.rows-most
+    receiver-is = column-at (table.receiver cw) (table.rows cw) 0 most_rows c h t.lengths.rows_most
 
     undelayed-is : undelayed s c ≡ true → table.kind cw c ≡ 1
     unfolding fresh_state
     undelayed-is e =
         eqb-true (table.kind cw c) 1
-        (sym (column-at (λ k. eqb (table.kind cw k) 1) (table.rows cw) false most_rows c h t.lengths.rows-most) ∙ e)
+        (sym (column-at (λ k. eqb (table.kind cw k) 1) (table.rows cw) false most_rows c h t.lengths.rows_most) ∙ e)
 
   pub multiple_high : p.multiple ≤ most_multiple
   multiple_high =
@@ -90,23 +90,23 @@ module _ (tw cw : List ℕ) (p : Plan) (a : Accepts tw cw p) where
     sizes = record {
       some = t.lengths.some;
       few = t.lengths.tasks_most;
-      few_rows = t.lengths.rows-most;
+      few_rows = t.lengths.rows_most;
       multiple_low = a.multiple_is.some;
       multiple_high = multiple_high;
       cycle_below = a.multiple_is.some;
     };
     times = λ i h. let z = t.sizes i h in record {
-      compute-low = rw (compute-is i h) z.compute-low;
-      compute-high = rw (compute-is i h, deadline-is i h) z.compute-high;
-      deadline-high = rw (deadline-is i h, period-is i h) z.deadline-high;
-      period-high = rw (period-is i h) z.period-high;
+      compute_low = rw (compute-is i h) z.compute_low;
+      compute_high = rw (compute-is i h, deadline_is i h) z.compute_high;
+      deadline_high = rw (deadline_is i h, period-is i h) z.deadline_high;
+      period_high = rw (period-is i h) z.period_high;
     };
     dispatches = λ i h. omega (arith, rests_at {A = ℕ} 0 most_tasks i, a.multiple_is.some);
     joins = λ c h. let j = t.joins c h in record {
-      sender-task = rw (sender-is c h) j.sender-task;
-      receiver-task = rw (receiver-is c h) j.receiver-task;
+      sender_task = rw (sender-is c h) j.sender_task;
+      receiver_task = rw (receiver-is c h) j.receiver_task;
     };
-    names-task = a.order_is.names;
+    names_task = a.order_is.names;
     has_place = has_place;
   }
 
@@ -120,13 +120,13 @@ module _ (tw cw : List ℕ) (p : Plan) (a : Accepts tw cw p) where
       (divides-or (table.period tw (table.receiver cw c)) (table.period tw (table.sender cw c))))
       (divides-or (table.period tw (table.sender cw c)) (table.period tw (table.receiver cw c)))
 
-  sender-first : (c : ℕ) → c < table.rows cw → table.kind cw c ≡ 1 → place_of s (table.sender cw c) < place_of s (table.receiver cw c)
+  sender_first : (c : ℕ) → c < table.rows cw → table.kind cw c ≡ 1 → place_of s (table.sender cw c) < place_of s (table.receiver cw c)
   unfolding fresh_state
-  sender-first c h u =
+  sender_first c h u =
       let j = t.joins c h in
-      sender-before-receiver tw cw p a c h u (place_of s (table.sender cw c)) (place_of s (table.receiver cw c))
-      (has_place (table.sender cw c) j.sender-task) (has_place (table.receiver cw c) j.receiver-task)
-      (placeOf-names s ranged (table.sender cw c) j.sender-task) (placeOf-names s ranged (table.receiver cw c) j.receiver-task)
+      sender-before_receiver tw cw p a c h u (place_of s (table.sender cw c)) (place_of s (table.receiver cw c))
+      (has_place (table.sender cw c) j.sender_task) (has_place (table.receiver cw c) j.receiver_task)
+      (place_of-names s ranged (table.sender cw c) j.sender_task) (place_of-names s ranged (table.receiver cw c) j.receiver_task)
 
   fits : Fits s
   unfolding fresh_state
@@ -134,18 +134,18 @@ module _ (tw cw : List ℕ) (p : Plan) (a : Accepts tw cw p) where
     tasks_fit = rw length-replicate t.lengths.tasks_most;
     outputs_fit = rw length-replicate t.lengths.tasks_most;
     dispatches_fit = rw length-replicate t.lengths.tasks_most;
-    buffers_fit = rw length-replicate t.lengths.rows-most;
-    inputs_fit = rw length-replicate t.lengths.rows-most;
+    buffers_fit = rw length-replicate t.lengths.rows_most;
+    inputs_fit = rw length-replicate t.lengths.rows_most;
   }
 
-  pub fresh-planned : Planned (fresh_state tw cw p)
+  pub fresh_planned : Planned (fresh_state tw cw p)
   unfolding fresh_state
-  fresh-planned = record {
-    in_range = ranged-inRange s ranged;
+  fresh_planned = record {
+    in_range = ranged_in_range s ranged;
     divides = λ i h. rw (period-is i h) (a.multiple_is.common i h);
-    sender-first = λ c h e. rw (sender-is c h, receiver-is c h) (sender-first c h (undelayed-is c h e));
+    sender_first = λ c h e. rw (sender-is c h, receiver-is c h) (sender_first c h (undelayed-is c h e));
     harmonic = λ c h e. let j = t.joins c h in
-        rw (sender-is c h, receiver-is c h, period-is (table.sender cw c) j.sender-task, period-is (table.receiver cw c) j.receiver-task)
+        rw (sender-is c h, receiver-is c h, period-is (table.sender cw c) j.sender_task, period-is (table.receiver cw c) j.receiver_task)
         (harmonic c h (undelayed-is c h e));
     fits = fits;
     all_idle = λ i _. ap (λ (k : Task). idle k.phase) (rests_at (task_in phase.Idle) most_tasks i);

@@ -14,12 +14,12 @@ use Rattle.rules.specs.Range.{place_of}
 use Rattle.rules.specs.Sampling.{said}
 use Rattle.rules.specs.Runs.{Call, Sent, start, after, Job, counted, Alike, Consistent, TwoRuns}
 use Rattle.rules.proofs.Tests.{by_test}
-use Rattle.rules.proofs.Sampling.{upTo-counted}
+use Rattle.rules.proofs.Sampling.{up_to-counted}
 use Rattle.rules.proofs.Runs.Parts.{Laid}
 use Rattle.rules.proofs.Runs.Invariant.{Planned, start-laid}
 use Rattle.rules.proofs.Runs.Moments.{sent_take}
 use Rattle.rules.proofs.Runs.Reads.{sampled}
-use Rattle.rules.proofs.Runs.Words.{later_said, delivered-started}
+use Rattle.rules.proofs.Runs.Words.{later_said, delivered_started}
 
 module _ (s : State) (pl : Planned s) where
   laid : Laid s
@@ -36,21 +36,21 @@ module _ (s : State) (pl : Planned s) where
       S = sender s c
 
       si : S < s.count
-      si = laid.sender-in c l
+      si = laid.sender_in c l
 
       pos : 0 < period s S
-      pos = (laid.paced S si).period-pos
+      pos = (laid.paced S si).period_pos
 
       at_once : undelayed s c ≡ true → measure S j < measure i k
       at_once u =
-          let a : j * period s S ≤ k * period s i = omega (arith, upTo-counted (period s S) 0 (k * period s i) pos j (rw u at h)) in
-          omega (arith, mul-le-mul_right s.count a, laid.sender-first c l u, ap (λ (y : ℕ). place_of s y) e)
+          let a : j * period s S ≤ k * period s i = omega (arith, up_to-counted (period s S) 0 (k * period s i) pos j (rw u at h)) in
+          omega (arith, mul-le-mul_right s.count a, laid.sender_first c l u, ap (λ (y : ℕ). place_of s y) e)
 
       delayed : undelayed s c ≡ false → measure S j < measure i k
       delayed u =
           let D : ℕ = deadline s S in
           let a : suc (j * period s S) ≤ k * period s i =
-          omega (arith, upTo-counted (period s S) D (k * period s i) pos j (rw u at h), (laid.paced S si).deadline-pos) in
+          omega (arith, up_to-counted (period s S) D (k * period s i) pos j (rw u at h), (laid.paced S si).deadline_pos) in
           omega (arith, mul-le-mul_right s.count a, laid.has_place S si)
 
   -- the words that a task delivers in a run
@@ -72,8 +72,8 @@ module _ (s : State) (pl : Planned s) where
     -- the word of a job that reads the same in both
     same_word : (i k : ℕ) → Same i k → k < length (words ca i) → k < length (words cb i) → get_or (words ca i) k 0 ≡ get_or (words cb i) k 0
     same_word i k ih a b =
-        let p = delivered-started s pl ca i k a in
-        let q = delivered-started s pl cb i k b in
+        let p = delivered_started s pl ca i k a in
+        let q = delivered_started s pl cb i k b in
         agree i k p.0 q.0 p.1 q.1 (ih p.0 q.0 p.1 q.1) a b
 
     same-said : (i u : ℕ) → ((j : ℕ) → j < u → Same i j) → u ≤ length (words ca i) → u ≤ length (words cb i) →

@@ -16,8 +16,8 @@ use Rattle.rules.specs.Runs.{Call, tick, complete, Moment, start, spoken, next, 
 use Rattle.rules.proofs.Tests.{by_test, cond_by, lt_or}
 use Rattle.rules.proofs.Kept.{plan_count}
 use Rattle.rules.proofs.Sampling.{length_more}
-use Rattle.rules.proofs.Runs.Choice.{runner-in}
-use Rattle.rules.proofs.Runs.Moments.{tick-by, word-by, halted_after, after-split}
+use Rattle.rules.proofs.Runs.Choice.{runner_in}
+use Rattle.rules.proofs.Runs.Moments.{tick_by, word-by, halted_after, after-split}
 use Rattle.rules.proofs.Runs.Invariant.{Planned, Invariant, next-invariant, start-invariant}
 
 -- ---------------------------------------------------------------------------------------------------------------------------
@@ -33,7 +33,7 @@ spoken-holds W r w i j h =
     (λ _. (omega (arith, length_more (W i) w), get_or-append (W i) (w ∷ []) 0 j h)) (λ _. (h, refl))
 
 next-holds : (m : Moment) (c : Call) (i j : ℕ) → j < length (m.words i) → Holds ((next m c).words i) (m.words i) j
-next-holds m tick i j h = tick-by (λ k. Holds (k.words i) (m.words i) j) m (h, refl) (λ _. (h, refl)) (λ _ _. (h, refl))
+next-holds m tick i j h = tick_by (λ k. Holds (k.words i) (m.words i) j) m (h, refl) (λ _. (h, refl)) (λ _ _. (h, refl))
 next-holds m (complete w) i j h =
     word-by (λ k. Holds (k.words i) (m.words i) j) m w (h, refl) (λ _ _. spoken-holds m.words (running m.state) w i j h)
 
@@ -59,7 +59,7 @@ module _ (s : State) where
       JobAt s m i (length (m.words i)) (input m.state)
   running-job m d h i r = record {
     live = h;
-    in_table = omega (arith, runner-in m.state d.parts.laid i r, plan_count s m.state d.plan);
+    in_table = omega (arith, runner_in m.state d.parts.laid i r, plan_count s m.state d.plan);
     begun = d.settled i r;
     number = refl;
     has_read = λ _ _ _. refl;
@@ -84,7 +84,7 @@ module _ (s : State) where
 
   next-began : (m : Moment) (c : Call) (cs : List Call) → Invariant s m → (i j : ℕ) → j < length ((next m c).words i) → Began m cs i j
   next-began m tick cs d i j =
-      tick-by (λ k. j < length (k.words i) → Began m cs i j) m (λ l. inl l) (λ _ l. inl l) (λ _ _ l. inl l)
+      tick_by (λ k. j < length (k.words i) → Began m cs i j) m (λ l. inl l) (λ _ l. inl l) (λ _ _ l. inl l)
   next-began m (complete w) cs d i j =
       word-by (λ k. j < length (k.words i) → Began m cs i j) m w (λ l. inl l)
       (λ h e. spoken-began m w cs d h (running m.state) (e, refl) i j)
@@ -100,7 +100,7 @@ module _ (s : State) where
       on (inl l) = next-began m c (c ∷ cs) d i j l
       on (inr b) = inr (suc b.0, b.1, b.2)
 
-  pub delivered-started : Planned s → (cs : List Call) (i k : ℕ) → k < length ((after (start s) cs).words i) →
+  pub delivered_started : Planned s → (cs : List Call) (i k : ℕ) → k < length ((after (start s) cs).words i) →
       (x : ℕ → ℕ) × Job s (after (start s)) cs i k x
-  delivered-started pl cs i k h =
+  delivered_started pl cs i k h =
       elim (after-began cs (start s) (start-invariant s pl) i k h) [ inl l ↦ absurd (omega arith) | inr b ↦ (b.1, (b.0, b.2)) ]

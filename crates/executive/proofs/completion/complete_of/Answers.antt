@@ -6,7 +6,7 @@ use Rattle.rules.specs.Fresh.{halted_zeros}
 use Rattle.rules.specs.Steps.{completing}
 use Rattle.rules.proofs.Range.{in_range-ranged}
 use Rattle.executive.specs.Lent.{having}
-use Rattle.executive.proofs.Judging.{number_of, in-range-by, refused-by, carried_out}
+use Rattle.executive.proofs.Judging.{number_of, in_range_by, refused-by, carried_out}
 use Rattle.executive.proofs.completion.complete_of.Goals as goal
 
 pub returns-then-k-gt0 : goal.returns-then-k-gt0
@@ -21,8 +21,8 @@ completing-requires c =
     let a = c.args in
     let k = c.refusal-k in
     let s = having a.n a.m a.u a.periods.now a.deadlines.now a.computes.now a.senders.now a.receivers.now a.undelayed.now a.order.now halted_zeros a.tasks a.outputs.now a.dispatches.now a.buffers.now a.inputs.now a.t false a.halted in
-    let r = in_range-ranged s (in-range-by s k.result (number_of s k.result k.ensures) c.if-k-gt0.false) in
-    (r.sizes.few, r.sizes.few_rows, (λ i h. (r.joins i h).receiver-task), r.names-task)
+    let r = in_range-ranged s (in_range_by s k.result (number_of s k.result k.ensures) c.if-k-gt0.false) in
+    (r.sizes.few, r.sizes.few_rows, (λ i h. (r.joins i h).receiver_task), r.names_task)
 
 pub returns : goal.returns
 returns c = λ z.

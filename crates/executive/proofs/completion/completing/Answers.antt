@@ -10,7 +10,7 @@ use Rattle.rules.specs.declared.State.{State}
 use Rattle.rules.specs.declared.Phase.TheVariants as phase
 use Rattle.rules.proofs.Steps.{completing-none, completing-on}
 use Rattle.executive.specs.Columns.{posts_in}
-use Rattle.executive.specs.Lent.{toComplete}
+use Rattle.executive.specs.Lent.{to_complete}
 use Rattle.executive.proofs.completion.completing.Goals as goal
 
 -- the state once task i has ended with the word w and the buffers are as given
@@ -27,7 +27,7 @@ ended_is s i w buffers e = ap (ended_by s i w) e
 pub returns-then-not-c : goal.returns-then-not-c
 returns-then-not-c c = λ z.
     let a = c.args in
-    let s = toComplete a.n a.m a.senders.now a.receivers.now a.undelayed.now a.order.now a.dispatches.now z a.tasks a.outputs.now a.buffers.now a.inputs.now in
+    let s = to_complete a.n a.m a.senders.now a.receivers.now a.undelayed.now a.order.now a.dispatches.now z a.tasks a.outputs.now a.buffers.now a.inputs.now in
     sym (completing-none s a.word (sym c.choose-c.ensures.some_is ∙ not-true _ c.if-not-c.true))
 
 pub returns : goal.returns
@@ -37,7 +37,7 @@ returns c = λ z.
     let some = not-false _ c.if-not-c.false in
     let i = said.result.task in
     let buffers = c.post.new.buffers in
-    let s = toComplete a.n a.m a.senders.now a.receivers.now a.undelayed.now a.order.now a.dispatches.now z a.tasks a.outputs.now a.buffers.now a.inputs.now in
+    let s = to_complete a.n a.m a.senders.now a.receivers.now a.undelayed.now a.order.now a.dispatches.now z a.tasks a.outputs.now a.buffers.now a.inputs.now in
     c.run.ensures (ended_by s i a.word buffers)
     ∙ (ap chosen (ended_is s i a.word buffers c.post.ensures ∙ ap (λ (k : ℕ). ended_at s k a.word) (said.ensures.task_is some))
     ∙ sym (completing-on s a.word (sym said.ensures.some_is ∙ some)))

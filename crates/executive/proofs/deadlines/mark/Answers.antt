@@ -2,7 +2,7 @@
 use Rattle.std.proofs.Common.{arith, ap, refl, false, get_or}
 use mathlib.Core.Bool.{◌&&◌, ◌||◌}
 use mathlib.Core.Path.{◌∙◌}
-use Rattle.rules.proofs.Counting.{mapBelow-turn}
+use Rattle.rules.proofs.Counting.{map_below-turn}
 use Rattle.executive.specs.Marks.{puts}
 use Rattle.executive.specs.Columns.{due_in, released_in}
 use Rattle.executive.proofs.Marks.{any_below-turn}
@@ -19,8 +19,8 @@ loop-i-preserved c =
     let same = ap (◌&&◌ a.ticked) (same-remainder a.t (get_or a.deadlines.now l.i 0) (get_or a.periods.now l.i 0) (fit.low l.i (omega arith)) (fit.within l.i (omega arith))) in
     record {
       within = omega arith;
-      due_are = mapBelow-turn (puts due) l.i a.due.now l.due false _ l.invariant.due_are same;
-      released_are = mapBelow-turn (puts released) l.i a.released.now l.released false _ l.invariant.released_are refl;
+      due_are = map_below-turn (puts due) l.i a.due.now l.due false _ l.invariant.due_are same;
+      released_are = map_below-turn (puts released) l.i a.released.now l.released false _ l.invariant.released_are refl;
       some_due = ap (◌||◌ l.a) same ∙ any_below-turn due l.i l.a l.invariant.some_due;
       some_released = any_below-turn released l.i l.b l.invariant.some_released;
     }

@@ -42,7 +42,7 @@ fresh-is : (tw cw : List ℕ) (t : TaskColumns) (c : RowColumns) (p : Plan) → 
     started (count tw) (rows cw) t c p ≡ fresh_state tw cw p
 unfolding fresh_state
 fresh-is tw cw t c p a b =
-    rw (a.periods_are, a.deadlines_are, a.computes_are, a.criticalities_are, a.enforced-are, b.senders_are, b.receivers_are, b.undelayed-are)
+    rw (a.periods_are, a.deadlines_are, a.computes_are, a.criticalities_are, a.enforced_are, b.senders_are, b.receivers_are, b.undelayed_are)
 
 pub returns : goal.returns
 returns c =

@@ -8,10 +8,10 @@ use Rattle.rules.specs.declared.Answer.TheVariants as answer
 use Rattle.rules.proofs.Steps.{ticking-missed, ticking-on}
 use Rattle.executive.specs.Marks.{any_below, marked}
 use Rattle.executive.specs.Columns.{due_in, released_in, Marks}
-use Rattle.executive.specs.Lent.{toTick}
+use Rattle.executive.specs.Lent.{to_tick}
 use Rattle.executive.specs.declared.deadlines.Falls.{Falls}
 use Rattle.executive.proofs.Marks.{Tells, puts-tells, any_below-same, or_same}
-use Rattle.executive.proofs.Copies.{missing-is, exchanged-is, advanced-is}
+use Rattle.executive.proofs.Copies.{missing-is, exchanged_is, advanced-is}
 use Rattle.executive.proofs.ticking.ticking.Goals as goal
 
 -- the marks, in columns that had none
@@ -21,7 +21,7 @@ module _ (periods deadlines : List ℕ) (n : ℕ) (ticked : Bool) (t : ℕ) (due
   due-told = puts-tells (due_in periods deadlines ticked t) n (replicate 32 false) due few m.due_are
 
   freed-told : Tells freed (released_in periods t) n
-  freed-told = puts-tells (released_in periods t) n (replicate 32 false) freed few m.released-are
+  freed-told = puts-tells (released_in periods t) n (replicate 32 false) freed few m.released_are
 
   some-due : r.due ≡ any_below (marked due) n
   some-due = m.some_due ∙ any_below-same (due_in periods deadlines ticked t) (marked due) n (λ i h. sym (due-told i h))
@@ -40,7 +40,7 @@ pub returns-then-i-n : goal.returns-then-i-n
 returns-then-i-n c = λ z.
     let a = c.args in
     let m = c.mark-any in
-    let s = toTick a.n a.m a.u a.periods.now a.deadlines.now a.senders.now a.receivers.now a.undelayed.now a.order.now a.outputs.now z a.tasks a.dispatches.now a.buffers.now a.inputs.now a.t a.ticked false in
+    let s = to_tick a.n a.m a.u a.periods.now a.deadlines.now a.senders.now a.receivers.now a.undelayed.now a.order.now a.outputs.now z a.tasks a.dispatches.now a.buffers.now a.inputs.now a.t a.ticked false in
     let told = due-told a.periods.now a.deadlines.now a.n a.ticked a.t m.new.due m.new.released m.result c.requires.few m.ensures in
     let e = c.first_missing-i.ensures ∙ missing-is s m.new.due told in
     ap (λ (i : ℕ). step (answer.Missed i) (set_halted s true)) e ∙ sym (ticking-missed s (rw e at c.if-i-n.true))
@@ -61,7 +61,7 @@ returns c = λ z.
     let a = c.args in
     let m = c.mark-any in
     let x = c.requires in
-    let s = toTick a.n a.m a.u a.periods.now a.deadlines.now a.senders.now a.receivers.now a.undelayed.now a.order.now a.outputs.now z a.tasks a.dispatches.now a.buffers.now a.inputs.now a.t a.ticked false in
+    let s = to_tick a.n a.m a.u a.periods.now a.deadlines.now a.senders.now a.receivers.now a.undelayed.now a.order.now a.outputs.now z a.tasks a.dispatches.now a.buffers.now a.inputs.now a.t a.ticked false in
     let falling = due-told a.periods.now a.deadlines.now a.n a.ticked a.t m.new.due m.new.released m.result x.few m.ensures in
     let freeing = freed-told a.periods.now a.deadlines.now a.n a.ticked a.t m.new.due m.new.released m.result x.few m.ensures in
     let missed = c.first_missing-i.ensures ∙ missing-is s m.new.due falling in
@@ -69,7 +69,7 @@ returns c = λ z.
     let w = c.exchange-woken in
     let exchanged = moved s w.result s.outputs w.new.dispatches w.new.buffers w.new.inputs s.cycle s.ticked s.halted in
     let same =
-    exchanged-is s m.new.due m.new.released (record { sends = x.sends; receives = x.receives; falling = falling; freeing = freeing })
+    exchanged_is s m.new.due m.new.released (record { sends = x.sends; receives = x.receives; falling = falling; freeing = freeing })
     w.result w.new.dispatches w.new.buffers w.new.inputs
     w.ensures.buffers_after w.ensures.inputs_after w.ensures.dispatches_after w.ensures.value
     in
