@@ -9,7 +9,7 @@ use lib.ListN.{set}
 use borrow.Author.Tests.{ltb-true}
 use Rattle.rules.specs.Answers.{answer_says}
 use Rattle.rules.specs.Counting.{map_below}
-use Rattle.rules.specs.Views.{waiting, task_in, phase_of, set_tasks, set_inputs}
+use Rattle.rules.specs.Views.{waiting, task_in, set_tasks, set_inputs}
 use Rattle.rules.specs.Steps.{step, some_runs, running, started_at, chosen}
 use Rattle.rules.specs.declared.Phase.TheVariants as phase
 use Rattle.rules.specs.declared.Task.{Task}

@@ -24,7 +24,6 @@ none true true k e h = absurd (omega arith)
 none true false k e h = (refl, refl)
 none false halted k e h = absurd (omega arith)
 
-<<<<<<< HEAD
 -- the number that is told of the columns is the state's
 pub number_of : (s : State) (k : ℕ) →
     k ≡ refusal_of
@@ -37,12 +36,6 @@ module _ (s : State) (k : ℕ) (e : k ≡ refusal_of (in_range s) s.halted) wher
   pub in_range_by : k ≤ 0 → in_range s ≡ true
   in_range_by h = (none (in_range s) s.halted k e h).0
 
-=======
-module _ (s : State) (k : ℕ) (e : k ≡ refusal_of (in_range s) s.halted) where
-  pub in_range_by : k ≤ 0 → in_range s ≡ true
-  in_range_by h = (none (in_range s) s.halted k e h).0
-
->>>>>>> 6ffceccdf5fef6059a291adb04bb07cbc705bf52
   pub not_halted_by : k ≤ 0 → s.halted ≡ false
   not_halted_by h = (none (in_range s) s.halted k e h).1
 

@@ -1,4 +1,3 @@
-use Rattle.std.proofs.Common.{sym}
 use mathlib.Core.Path.{◌∙◌}
 use mathlib.Core.Logic.{inl, inr}
 use Rattle.executive.specs.Lent.{to_choose}

@@ -4,7 +4,6 @@ use Rattle.std.proofs.Common.{◌≡◌, ℕ, ◌≤◌, Bool, true, false, List
 use mathlib.Core.Path.{◌∙◌}
 use Rattle.rules.specs.Steps.{step, chosen, missing}
 use Rattle.rules.specs.Views.{moved, set_cycle, set_halted}
-use Rattle.rules.specs.declared.State.{State}
 use Rattle.rules.specs.declared.Answer.TheVariants as answer
 use Rattle.rules.proofs.Steps.{ticking-missed, ticking-on}
 use Rattle.executive.specs.Marks.{any_below, marked}
