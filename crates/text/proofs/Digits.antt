@@ -1,5 +1,4 @@
 -- The fewest digits that hold a number are its digits with no zero in front, 64 bits need no more than 20, and what is printed reads back.
-use mathlib.Core.Bool.{Bool, true, false}
 use mathlib.Core.Path.{◌≡◌, refl, sym, ap, subst, ◌∙◌}
 use mathlib.Core.List.{List, [], ◌∷◌, ◌++◌}
 use mathlib.Core.Logic.{⊎_elim}

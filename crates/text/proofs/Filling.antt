@@ -1,11 +1,10 @@
 -- Text put behind text is one text, and what a line leaves in a buffer is settled by its statement.
 use mathlib.Core.Path.{◌≡◌, refl, sym, ap, subst, ◌∙◌}
-use mathlib.Core.Bool.{Bool, true, false, cond}
 use mathlib.Core.List.{List, [], ◌++◌}
 use Prim.Native.Nat.{ℕ, ◌+◌, ◌≤◌, ◌<◌}
 use native.Mathlib.Omega.{arith}
 use lib.ListN.{length, take, drop, length-append}
-use lib.Seq.{sets, sets-eq, length-sets, take-append_seam, length-take-le}
+use lib.Seq.{sets-eq, length-sets, take-append_seam, length-take-le}
 use borrow.Author.Tests.{le-leb, lt-leb}
 use Rattle.io.specs.Counts.{IsPrefixLen}
 use Rattle.rules.proofs.Parts.{sets_then}

@@ -1,13 +1,12 @@
 -- How long a line can be, so that a caller knows that its buffer has room: then the line is put whole.
-use mathlib.Core.Path.{◌≡◌, refl, ◌∙◌}
-use mathlib.Core.List.{List, ◌++◌}
+use mathlib.Core.List.{List}
 use Prim.Native.Nat.{ℕ, ◌+◌, ◌≤◌}
 use native.Mathlib.Omega.{arith}
 use lib.ListN.{length, length-append}
 use borrow.Author.Tests.{le-leb}
 use Rattle.rules.specs.declared.Answer.{Answer}
 use Rattle.rules.specs.declared.Answer.TheVariants as answer
-use Rattle.text.specs.Lines.{decimal, spaced, newline, answer_line, table_row}
+use Rattle.text.specs.Lines.{answer_line, table_row}
 use Rattle.text.specs.Buffers.{Put, Line}
 use Rattle.text.proofs.Digits.{decimal-length}
 
