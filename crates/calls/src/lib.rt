@@ -35,6 +35,7 @@ fn word(digits: &[u8]) -> Call
 }
 
 // `t`, or `c`, a space and a word; the line's end is not part of it.
+#[tactic(auto, using(crate::proofs::Decode::call_none, crate::proofs::Decode::call_letter, crate::proofs::Decode::call_longer))]
 pub fn call_of(line: &[u8]) -> Call
     ensures { result ≡ call_of line.now }
 {

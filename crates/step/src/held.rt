@@ -19,6 +19,7 @@ pub(crate) fn nothing() -> Held
 }
 
 // One byte more of the line.
+#[tactic(auto, using(crate::proofs::Lines::keep_full))]
 pub(crate) fn keep(h: Held, b: u8) -> Held
     ensures { held result ≡ keeping (held h) b }
 {

@@ -90,6 +90,7 @@ pub(crate) fn serve(desk: Desk, bytes: &[u8], out: &mut [u8]) -> Served
 }
 
 // The input's end: a last line counts if it has a byte.
+#[tactic(auto, using(crate::proofs::Lines::some_kept, crate::proofs::Turns::finish_line))]
 pub(crate) fn finish(desk: Desk, out: &mut [u8]) -> usize
     requires { 50 ≤ length out.old }
     ensures finishes { Finishes desk out.old result out.new }
