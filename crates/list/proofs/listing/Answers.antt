@@ -42,5 +42,5 @@ returns-clause-list_is c =
     let a = read_tables c.read-read.ensures c.in-Read.is in
     let w = contents_of c.args.file.now in
     let plan : PlanIs (task_words w) (connection_words w) c.plan.result = rw (a.task_front, a.row_front) at c.plan.ensures in
-    list_planned _ _ _ _ c.plan.result (read_answer c.read-read.ensures ∙ c.in-Read.is) plan 
+    list_planned _ _ _ _ c.plan.result (read_answer c.read-read.ensures ∙ c.in-Read.is) plan
     (put_front c.plan_text.ensures c.requires ∙ ap (λ (n : ℕ). plan_text c.plan.result n c.plan.result.verdict) a.counts.tasks)
