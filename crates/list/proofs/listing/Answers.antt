@@ -23,19 +23,19 @@ pub overflow_mul-row_words : goal.overflow_mul-row_words
 overflow_mul-row_words c = let a = read_tables c.read-read.ensures c.in-Read.is in omega arith
 
 pub slice_bounds-tasks-end : goal.slice_bounds-tasks-end
-slice_bounds-tasks-end c = (read_tables c.read-read.ensures c.in-Read.is).task_room
+slice_bounds-tasks-end c = let a = read_tables c.read-read.ensures c.in-Read.is in omega arith
 
 pub slice_bounds-plan-end : goal.slice_bounds-plan-end
-slice_bounds-plan-end c = sym (length-take-le _ _ (read_tables c.read-read.ensures c.in-Read.is).task_room)
+slice_bounds-plan-end c = let a = read_tables c.read-read.ensures c.in-Read.is in sym (length-take-le _ _ (omega arith))
 
 pub slice_bounds-connections-end : goal.slice_bounds-connections-end
-slice_bounds-connections-end c = (read_tables c.read-read.ensures c.in-Read.is).row_room
+slice_bounds-connections-end c = let a = read_tables c.read-read.ensures c.in-Read.is in omega arith
 
 pub slice_bounds-plan-end-2 : goal.slice_bounds-plan-end-2
-slice_bounds-plan-end-2 c = sym (length-take-le _ _ (read_tables c.read-read.ensures c.in-Read.is).row_room)
+slice_bounds-plan-end-2 c = let a = read_tables c.read-read.ensures c.in-Read.is in sym (length-take-le _ _ (omega arith))
 
 pub plan_text-requires-clause-n_bound : goal.plan_text-requires-clause-n_bound
-plan_text-requires-clause-n_bound c = (read_tables c.read-read.ensures c.in-Read.is).counts.few_tasks
+plan_text-requires-clause-n_bound c = let a = read_tables c.read-read.ensures c.in-Read.is in omega arith
 
 pub returns-clause-list_is : goal.returns-clause-list_is
 returns-clause-list_is c =
