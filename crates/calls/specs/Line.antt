@@ -1,5 +1,5 @@
 -- 01: "Standard input has one call a line: `t`, or `c`, a space and a decimal 32-bit word (one to ten digits, at most 4,294,967,295)."
-use Rattle.std.specs.Prelude.{Bool, true, false, cond, not, ◌&&◌, ◌||◌, List, [], ◌∷◌, ℕ, ◌+◌, ◌*◌, ◌-◌, length, ltb, eqb}
+use Rattle.std.specs.Prelude.{Bool, true, cond, not, ◌&&◌, ◌||◌, List, [], ◌∷◌, ℕ, ◌+◌, ◌*◌, ◌-◌, length, ltb, eqb}
 use Rattle.calls.specs.declared.Call.{Call}
 use Rattle.calls.specs.declared.Call.TheVariants.{Tick, Complete, Bad}
 
