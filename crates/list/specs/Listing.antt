@@ -1,7 +1,7 @@
 -- 01: "The list program reads this machine file on standard input and prints the following (place from 1, task, internal deadline,
 -- internal criticality); a refusal prints one line, `refused`, number, place".
-use Rattle.std.specs.Prelude.{◌≡◌, List, [], ◌++◌, ℕ, zero, suc, ◌+◌, ◌≤◌, ◌<◌, get_or, length}
-use Rattle.rules.specs.Sizes.{most_tasks, most_task_words, most_row_words}
+use Rattle.std.specs.Prelude.{◌≡◌, List, [], ◌++◌, ℕ, zero, suc, ◌+◌, get_or}
+use Rattle.rules.specs.Sizes.{most_task_words, most_row_words}
 use Rattle.rules.specs.Tables.{count}
 use Rattle.rules.specs.File.{contents_of, task_words, connection_words, read_of}
 use Rattle.rules.specs.Plan.{PlanIs}
