@@ -18,7 +18,7 @@ returns-then-not-d c =
 pub leave-requires : goal.leave-requires
 leave-requires c =
     let done : Carried (λ s. complete_of s c.args.word) c.args.state.now c.complete.result =
-        carried _ _ _ _ c.if-state-lt-STATE_WORDS.false c.decode-d.ensures (not-false _ c.if-not-d.false) c.complete.ensures in
+    carried _ _ _ _ c.if-state-lt-STATE_WORDS.false c.decode-d.ensures (not-false _ c.if-not-d.false) c.complete.ensures in
     let a : get_or c.args.state.now 0 0 < wholes = search rules in
     let b : get_or c.args.state.now 1 0 < wholes = search rules in
     leavable _ _ _ done (complete_kept _ _) (complete_narrow _ _) a b
@@ -26,5 +26,5 @@ leave-requires c =
 pub returns : goal.returns
 returns c =
     let done : Carried (λ s. complete_of s c.args.word) c.args.state.now c.complete.result =
-        carried _ _ _ _ c.if-state-lt-STATE_WORDS.false c.decode-d.ensures (not-false _ c.if-not-d.false) c.complete.ensures in
+    carried _ _ _ _ c.if-state-lt-STATE_WORDS.false c.decode-d.ensures (not-false _ c.if-not-d.false) c.complete.ensures in
     carried_out _ _ _ _ _ done c.leave.ensures.0 c.leave.ensures.1

@@ -1,5 +1,5 @@
 -- Before each turn the first k words are taken and tested.
-use Rattle.std.proofs.Common.{arith, ◌<◌, length}
+use Rattle.std.proofs.Common.{arith}
 use Rattle.board.proofs.Turns.{taking_none, taking_turn, takes-end, testing_none, testing_turn}
 use Rattle.board.proofs.columns.halves.Goals as goal
 

@@ -1,9 +1,8 @@
 -- Before each turn the first k words stand.
-use Rattle.std.proofs.Common.{◌≡◌, length, sym, ◌∙◌, arith}
+use Rattle.std.proofs.Common.{sym, ◌∙◌, arith}
 use Rattle.std.proofs.Math.ListN.{length-map, get_or-map}
-use Rattle.rules.specs.Sizes.{most_tasks}
 use Rattle.board.specs.Marks.{task_word, idle_task}
-use Rattle.board.proofs.Turns.{writing_none, writing_turn, writing_end}
+use Rattle.board.proofs.Turns.{writing_turn, writing_end}
 use Rattle.board.proofs.encoding.put_phases.Goals as goal
 
 pub loop-k-preserved : goal.loop-k-preserved
