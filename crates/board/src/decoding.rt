@@ -196,6 +196,7 @@ pub(crate) struct Decoded {
     pub(crate) state: State,
 }
 
+#[tactic(auto, unfolding(crate::specs::Parts::decoded, crate::specs::StateWords::state_from))]
 pub(crate) fn decode(words: &[u32]) -> Decoded
     requires { state_size ≤ length words.now }
     ensures { result ≡ decoded words.now }

@@ -86,6 +86,7 @@ fn put_rows(words: &mut [u32], s: State)
     }
 }
 
+#[tactic(auto, unfolding(crate::specs::StateWords::head_words))]
 fn put_head(words: &mut [u32], s: State)
     requires { (state_size ≤ length words.old) × Counted s }
     ensures { Lays 0 (head_words s) tasks_at words.old words.new }
