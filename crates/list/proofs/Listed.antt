@@ -1,13 +1,16 @@
 -- From the reader's answer and the planner's to what is printed for a file; and a file has one listing, since it has one plan.
-use mathlib.Core.Path.{◌≡◌, sym, ap, ◌∙◌}
+use mathlib.Core.Path.{◌≡◌, sym, ap, subst, ◌∙◌}
 use mathlib.Core.List.{List}
-use Prim.Native.Nat.{ℕ, ◌≤◌}
-use lib.ListN.{take}
-use Rattle.rules.specs.Sizes.{most_task_words, most_row_words}
+use Prim.Native.Nat.{ℕ, ◌≤◌, ◌<◌}
+use native.Mathlib.Omega.{arith}
+use lib.ListN.{get_or, take}
+use Rattle.rules.specs.Sizes.{most_tasks, most_task_words, most_row_words}
 use Rattle.rules.specs.Tables.{count}
 use Rattle.rules.specs.File.{contents_of, task_words, connection_words, read_of}
-use Rattle.rules.specs.Plan.{PlanIs}
+use Rattle.rules.specs.Plan.{PlanIs, Accepts, Judges}
 use Rattle.rules.specs.declared.Plan.{Plan}
+use Rattle.rules.specs.declared.Verdict.{Verdict}
+use Rattle.rules.specs.declared.Verdict.TheVariants.{Accepted}
 use Rattle.rules.specs.declared.Reading.{Reading}
 use Rattle.rules.specs.declared.Reading.TheVariants as reading
 use Rattle.rules.proofs.FileFront.{decisive, contents_front, read_front}
@@ -19,6 +22,13 @@ list_refused file text n q e h = rw e h
 
 pub list_planned : (file text : List ℕ) (t c : ℕ) (p : Plan) → read_of file most_task_words most_row_words ≡ reading.Read t c → PlanIs (task_words (contents_of file)) (connection_words (contents_of file)) p → text ≡ plan_text p (count (task_words (contents_of file))) p.verdict → ListIs file text
 list_planned file text t c p e h k = rw e (p, h, k)
+
+-- an accepted plan's order names tasks
+pub plan_names : (tw cw : List ℕ) (p : Plan) → PlanIs tw cw p → count tw ≤ most_tasks → p.verdict ≡ Accepted → (k : ℕ) → k < count tw → get_or p.order k 0 < most_tasks
+plan_names tw cw p h few e k l =
+    let a : Accepts tw cw p = subst (λ (v : Verdict). Judges tw cw v p) e h in
+    let b = a.order_is.names k l in
+    omega arith
 
 one : (tw cw : List ℕ) (r : Reading) (a b : List ℕ) → Lists tw cw r a → Lists tw cw r b → a ≡ b
 one tw cw (reading.Read t c) a b x y =
