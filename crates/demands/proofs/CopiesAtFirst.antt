@@ -16,7 +16,7 @@ use Rattle.rules.specs.Range.{in_range}
 use Rattle.rules.specs.Steps.{step, delivered, dispatched, missing, some_runs, running, started_at, chosen, advanced, ticking, ended_at, completing}
 use Rattle.rules.specs.Calls.{judged, tick_of, complete_of}
 use Rattle.rules.specs.Fresh.{fresh_state}
-use Rattle.rules.specs.Runs.{Call, Call.tick, Call.complete, Sent, Moment, start, after-tick, after-word, after_by, JobAt}
+use Rattle.rules.specs.Runs.{Call, Call.tick, Call.complete, Sent, Moment, start, after_tick, after_word, after_by, JobAt}
 use Rattle.rules.proofs.Tests.{cond_by}
 use Rattle.rules.proofs.Steps.{chosen-ticked}
 use Rattle.rules.proofs.Calls.{judged-by}
@@ -70,13 +70,13 @@ module _ (f : Ticker) (g : Completer) (completes : MeetsComplete g) (copies : Co
   later_runs (tick ∷ cs) m h k t =
       let e : f.run m.state ≡ names_only m.state = later_step m.state h k in
       let still : (f.run m.state).state.ticked ≡ true = ap (λ (r : Step). r.state.ticked) e ∙ tick_ticked m.state k in
-      later_runs cs (after-tick m (f.run m.state)) (f.gives m.state h) still t
-      ∙ ap (λ (r : Step). after_by names_only complete_of (after-tick m r) cs) e
+      later_runs cs (after_tick m (f.run m.state)) (f.gives m.state h) still t
+      ∙ ap (λ (r : Step). after_by names_only complete_of (after_tick m r) cs) e
   later_runs (complete w ∷ cs) m h k t =
       let e : g.run m.state w ≡ complete_of m.state w = step_is _ _ (completes m.state w h t.0) in
       let still : (g.run m.state w).state.ticked ≡ true = ap (λ (r : Step). r.state.ticked) e ∙ complete_ticked m.state w k in
-      later_runs cs (after-word m w (g.run m.state w)) (g.gives m.state w h t.0) still t.1
-      ∙ ap (λ (r : Step). after_by names_only complete_of (after-word m w r) cs) e
+      later_runs cs (after_word m w (g.run m.state w)) (g.gives m.state w h t.0) still t.1
+      ∙ ap (λ (r : Step). after_by names_only complete_of (after_word m w r) cs) e
 
 -- ---------------------------------------------------------------------------------------------------------------------------
 -- M10, with any words b and x copied at the first tick, and the word w of the sender's first job
@@ -88,7 +88,7 @@ abbrev first : List ℕ → List ℕ → Step
 first b x = step (tick_of M10).answer (with_words (tick_of M10).state b x)
 
 abbrev at_five : List ℕ → List ℕ → ℕ → Moment
-at_five b x w = after_by names_only complete_of (after-tick (start M10) (first b x)) (behind w)
+at_five b x w = after_by names_only complete_of (after_tick (start M10) (first b x)) (behind w)
 
 reads_first : (b x : List ℕ) (w : ℕ) → input (at_five b x w).state 0 ≡ get_or x 0 0
 unfolding fresh_state in_range judged delivered dispatched started_at chosen advanced ticking ended_at completing
@@ -123,8 +123,8 @@ module _ (f : Ticker) (g : Completer) (completes : MeetsComplete g) (copies : Co
 
   is_five : (w : ℕ) → Bits 32 w → after_by f.run g.run (start M10) (tick ∷ behind w) ≡ at_five b x w
   is_five w l =
-      later_runs f g completes copies names (behind w) (after-tick (start M10) (f.run M10)) (f.gives M10 M10-held) first_ticked (l, (omega arith, tt))
-      ∙ ap (λ (r : Step). after_by names_only complete_of (after-tick (start M10) r) (behind w)) (named_step f g completes copies names M10 M10-held)
+      later_runs f g completes copies names (behind w) (after_tick (start M10) (f.run M10)) (f.gives M10 M10-held) first_ticked (l, (omega arith, tt))
+      ∙ ap (λ (r : Step). after_by names_only complete_of (after_tick (start M10) r) (behind w)) (named_step f g completes copies names M10 M10-held)
 
   module _ (named : ReadsAsNamed M10 (after_by f.run g.run (start M10))) where
     copied : (w : ℕ) → Bits 32 w → get_or x 0 0 ≡ w

@@ -6,7 +6,7 @@ use Prim.Native.Nat.{ℕ}
 use lib.ListN.{take}
 use Rattle.rules.specs.declared.State.{State}
 use Rattle.rules.specs.declared.Step.{Step}
-use Rattle.rules.specs.Runs.{Call, Call.tick, Call.complete, Sent, Moment, after-tick, after-word, after_by, after, Run, JobAt, Job, Consistent}
+use Rattle.rules.specs.Runs.{Call, Call.tick, Call.complete, Sent, Moment, after_tick, after_word, after_by, after, Run, JobAt, Job, Consistent}
 use Rattle.rules.proofs.Answers.{step_is}
 use Rattle.rules.proofs.Runs.Moments.{sent_take}
 use Rattle.demands.specs.Demands.{Demand}
@@ -19,11 +19,11 @@ module _ (f : Ticker) (g : Completer) (ticks : MeetsTick f) (completes : MeetsCo
   pub runs_as_ruled : (cs : List Call) (m : Moment) → Held m.state → Sent cs → after_by f.run g.run m cs ≡ after m cs
   runs_as_ruled [] m h t = refl
   runs_as_ruled (tick ∷ cs) m h t =
-      runs_as_ruled cs (after-tick m (f.run m.state)) (f.gives m.state h) t
-      ∙ ap (λ (r : Step). after (after-tick m r) cs) (step_is _ _ (ticks m.state h))
+      runs_as_ruled cs (after_tick m (f.run m.state)) (f.gives m.state h) t
+      ∙ ap (λ (r : Step). after (after_tick m r) cs) (step_is _ _ (ticks m.state h))
   runs_as_ruled (complete w ∷ cs) m h t =
-      runs_as_ruled cs (after-word m w (g.run m.state w)) (g.gives m.state w h t.0) t.1
-      ∙ ap (λ (r : Step). after (after-word m w r) cs) (step_is _ _ (completes m.state w h t.0))
+      runs_as_ruled cs (after_word m w (g.run m.state w)) (g.gives m.state w h t.0) t.1
+      ∙ ap (λ (r : Step). after (after_word m w r) cs) (step_is _ _ (completes m.state w h t.0))
 
 -- ---------------------------------------------------------------------------------------------------------------------------
 -- The demand on runs that are the same for all calls that can be made

@@ -41,11 +41,11 @@ abbrev pub spoken : (ℕ → List ℕ) → ℕ → ℕ → ℕ → List ℕ
 spoken words i w j = cond (eqb j i) (words j ++ (w ∷ [])) (words j)
 
 -- a refused call is no tick and delivers no word
-abbrev pub after-tick : Moment → Step → Moment
-after-tick m r = record { state = r.state; ticks = cond (refused r.answer) m.ticks (suc m.ticks); words = m.words }
+abbrev pub after_tick : Moment → Step → Moment
+after_tick m r = record { state = r.state; ticks = cond (refused r.answer) m.ticks (suc m.ticks); words = m.words }
 
-abbrev pub after-word : Moment → ℕ → Step → Moment
-after-word m w r = record {
+abbrev pub after_word : Moment → ℕ → Step → Moment
+after_word m w r = record {
   state = r.state;
   ticks = m.ticks;
   words = cond (refused r.answer) m.words (spoken m.words (running m.state) w);
@@ -53,8 +53,8 @@ after-word m w r = record {
 
 -- "each on the state the last one gave, refused ones among them": by any tick and any completion
 abbrev pub next_by : (State → Step) → (State → ℕ → Step) → Moment → Call → Moment
-next_by f g m tick = after-tick m (f m.state)
-next_by f g m (complete w) = after-word m w (g m.state w)
+next_by f g m tick = after_tick m (f m.state)
+next_by f g m (complete w) = after_word m w (g m.state w)
 
 abbrev pub after_by : (State → Step) → (State → ℕ → Step) → Moment → List Call → Moment
 after_by f g m [] = m

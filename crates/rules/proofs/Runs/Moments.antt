@@ -10,7 +10,7 @@ use lib.Dec.{ltb}
 use Rattle.rules.specs.Views.{set_halted}
 use Rattle.rules.specs.Range.{in_range}
 use Rattle.rules.specs.Steps.{step, missing, delivered, dispatched, some_runs, running, ended_at, chosen, advanced, ticking, completing}
-use Rattle.rules.specs.Runs.{Call, tick, complete, Sent, Moment, spoken, after-tick, after-word, next, after}
+use Rattle.rules.specs.Runs.{Call, tick, complete, Sent, Moment, spoken, after_tick, after_word, next, after}
 use Rattle.rules.proofs.Tests.{by_test, cond_by, true_false}
 use Rattle.rules.proofs.Calls.{judged-by, chosen-accepts}
 
@@ -33,19 +33,19 @@ module _ (Q : Moment → Type 0) (m : Moment) where
       (m.state.halted ≡ false → ltb (missing m.state) m.state.count ≡ false → Q (ticked m)) → Q (next m tick)
   unfolding ticking
   tick_by q miss pass =
-      judged-by (λ z. Q (after-tick m z)) (in_range m.state) m.state.halted m.state (ticking m.state) (λ _. q)
-      (λ _ h. cond_by (λ z. Q (after-tick m z)) (ltb (missing m.state) m.state.count) _ _ (λ _. miss h) (λ e. went (pass h e)))
+      judged-by (λ z. Q (after_tick m z)) (in_range m.state) m.state.halted m.state (ticking m.state) (λ _. q)
+      (λ _ h. cond_by (λ z. Q (after_tick m z)) (ltb (missing m.state) m.state.count) _ _ (λ _. miss h) (λ e. went (pass h e)))
     where
-      went : Q (ticked m) → Q (after-tick m (step (chosen (dispatched (delivered m.state))).answer (advanced (chosen (dispatched (delivered m.state))).state)))
+      went : Q (ticked m) → Q (after_tick m (step (chosen (dispatched (delivered m.state))).answer (advanced (chosen (dispatched (delivered m.state))).state)))
       went = rw (chosen-accepts (dispatched (delivered m.state))) (λ z. z)
 
   pub word-by : (w : ℕ) → Q m → (m.state.halted ≡ false → some_runs m.state ≡ true → Q (spoke m w)) → Q (next m (complete w))
   unfolding completing
   word-by w q pass =
-      judged-by (λ z. Q (after-word m w z)) (in_range m.state) m.state.halted m.state (completing m.state w) (λ _. q)
-      (λ _ h. cond_by (λ z. Q (after-word m w z)) (some_runs m.state) _ _ (λ e. went (pass h e)) (λ _. q))
+      judged-by (λ z. Q (after_word m w z)) (in_range m.state) m.state.halted m.state (completing m.state w) (λ _. q)
+      (λ _ h. cond_by (λ z. Q (after_word m w z)) (some_runs m.state) _ _ (λ e. went (pass h e)) (λ _. q))
     where
-      went : Q (spoke m w) → Q (after-word m w (chosen (ended_at m.state (running m.state) w)))
+      went : Q (spoke m w) → Q (after_word m w (chosen (ended_at m.state (running m.state) w)))
       went = rw (chosen-accepts (ended_at m.state (running m.state) w)) (λ z. z)
 
 -- a halted state stays
