@@ -1,7 +1,7 @@
 #!/usr/bin/env python3
 """programs.py [BIN]: runs the built programs and compares what they print with what document 01 says, byte by byte.
 
-BIN is the folder of the programs (target/bin, where `rt check` puts them). `list` gets each file of machines/ and must print
+BIN is the folder of the programs (target/bin, where tools/build puts them). `list` gets each file of machines/ and must print
 tests/list/NAME.out. `step` gets machines/NAME.machine and tests/step/NAME.WHAT.in and must print tests/step/NAME.WHAT.out. The cases
 below have inputs that are too long, or too slow, to be stored.
 """
