@@ -1,13 +1,17 @@
 // Bytes from an open stream into a lent buffer.
 #![tactic(auto)]
 
+ghost use Rattle.std.specs.Prelude.{take};
+ghost use Rattle.std.specs.Io.KnownBytes.{Consumes};
 ghost use Rattle.io.specs.Counts.{IsPrefixLen};
 
 use std::io::Read;
 
-// Reads until the buffer is full, the input ends or a read fails, and answers how many bytes it put at the buffer's start.
+// Reads until the buffer is full, the input ends or a read fails, and answers how many bytes it put at the buffer's start: the
+// stream's next ones, in order and with none lost.
 pub fn read_full<R: Read>(from: &mut R, buf: &mut [u8]) -> usize
-    ensures { IsPrefixLen result buf.new }
+    ensures prefix_len { IsPrefixLen result buf.new }
+    ensures bytes { Consumes (R.remaining from.old) (R.remaining from.new) (take result buf.new) }
 {
     let mut done = 0;
     while done < buf.len() {
@@ -20,9 +24,10 @@ pub fn read_full<R: Read>(from: &mut R, buf: &mut [u8]) -> usize
     done
 }
 
-// One read: how many bytes it put at the buffer's start, none at the input's end or where it failed.
+// One read: how many of the stream's next bytes it put at the buffer's start, none at the input's end or where it failed.
 pub fn read_some<R: Read>(from: &mut R, buf: &mut [u8]) -> usize
-    ensures { IsPrefixLen result buf.new }
+    ensures prefix_len { IsPrefixLen result buf.new }
+    ensures bytes { Consumes (R.remaining from.old) (R.remaining from.new) (take result buf.new) }
 {
     match from.read(buf) {
         Ok(n) => n,
