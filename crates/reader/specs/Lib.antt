@@ -1,3 +1,3 @@
--- What the reader promises (Read), and how its rows stand for the words of 01's tables (Rows).
-pub mod Rows
+-- What the reader promises (Read), and how its items stand for those of the machine file (Items).
+pub mod Items
 pub mod Read
