@@ -7,6 +7,7 @@ use rules::{Counts, Refusal};
 use std::marker::Model;
 
 // Both tables at their full size, and how many tasks and connections stand at their fronts. A caller sees the words of these alone.
+#[derive(Drop)]
 pub struct Tables {
     tasks: [u16; 160],
     connections: [u16; 192],
