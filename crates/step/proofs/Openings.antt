@@ -5,15 +5,14 @@ use mathlib.Core.List.{List}
 use Prim.Native.Nat.{ℕ, ◌≤◌}
 use lib.ListN.{take}
 use Rattle.rules.specs.Sizes.{most_task_words, most_row_words}
-use Rattle.rules.specs.File.{contents_of, task_words, connection_words, read_of}
+use Rattle.rules.specs.File.{Reading, contents_of, task_words, connection_words, read_of}
 use Rattle.rules.specs.Fresh.{FreshIs}
 use Rattle.rules.specs.Answers.{answer_says}
 use Rattle.rules.specs.declared.Step.{Step}
 use Rattle.rules.specs.declared.Answer.{Answer}
 use Rattle.rules.specs.declared.Answer.TheVariants as answer
-use Rattle.rules.specs.declared.Reading.{Reading}
-use Rattle.rules.specs.declared.Reading.TheVariants as reading
-use Rattle.rules.proofs.Answers.{answer_says-injective}
+use Rattle.rules.specs.declared.Refusal.{Refusal}
+use Rattle.rules.proofs.Answers.{answer_says-injective, refusal_of}
 use Rattle.rules.proofs.FileFront.{decisive, contents_front, read_front}
 use Rattle.rules.proofs.Fresh.{fresh_one}
 use Rattle.text.specs.Lines.{answer_line}
