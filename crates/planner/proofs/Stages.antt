@@ -1,34 +1,33 @@
 -- The stages of the planner: each number of 01's list is tested when none before it stands, so the first place where its test holds
 -- is the refusal; and where no test holds, what is worked out is 01's plan.
 use mathlib.Core.Path.{◌≡◌, refl, ap, sym, ◌∙◌, subst}
-use mathlib.Core.Bool.{true, false}
+use mathlib.Core.Bool.{Bool, true, false}
 use mathlib.Core.Logic.{◌⊎◌, inl, inr, ⊎_elim}
 use mathlib.Core.List.{List}
 use Prim.Native.Nat.{ℕ, suc, ◌%◌, ◌≤◌, ◌<◌}
 use native.Mathlib.Omega.{arith}
 use lib.ListN.{get_or, length}
 use borrow.Author.Tests.{ltb-true, lt-ltb}
-use Rattle.rules.specs.Sizes.{most_tasks, task_width, row_width, most_task_words, most_row_words}
-use Rattle.rules.specs.Tables.{count, rows, sender, receiver}
+use Rattle.std.specs.Prelude.{Result}
+use Rattle.rules.specs.Sizes.{most_tasks, task_width, row_width, most_task_words, most_row_words, most_multiple}
+use Rattle.rules.specs.Tables.{count, sender, receiver}
 use Rattle.rules.specs.Chains.{Link, Acyclic}
-use Rattle.rules.specs.Counting.{first_of, column}
-use Rattle.rules.specs.Order.{IsDeadline, IsCriticality}
-use Rattle.rules.specs.Refusals.{Bad, Refusal, Sound}
+use Rattle.rules.specs.Counting.{column}
+use Rattle.rules.specs.Order.{Common, IsDeadline, IsCriticality}
+use Rattle.rules.specs.Refusals.{Refusal, Sound}
 use Rattle.rules.specs.Plan.{ZeroFrom, Accepts, Judges, PlanIs}
 use Rattle.rules.specs.declared.Plan.{Plan}
-use Rattle.std.specs.Prelude.{Result, Ok}
-use Rattle.rules.specs.Answers.{number_of, place_of}
 use Rattle.rules.specs.declared.Refusal as code
-use Rattle.rules.proofs.Answers.{verdict_says-injective}
+use Rattle.rules.proofs.Tests.{true_false}
 use Rattle.rules.proofs.Deciding.{Decision, lt, equal, fails, either, restated}
 use Rattle.rules.proofs.Counting.{replicate_at, column-at, column-past, column-length}
 use Rattle.rules.proofs.Chains.{Upto, upto_reached, upto_reaches}
-use Rattle.rules.proofs.Refusals.{NoneUnder, Tables, none_more, none_under_one, none_at_all, refused-whole, first_refused, first_passed, tables_of, link_within, no_circle}
-use Rattle.planner.specs.Places.{stands, Readable}
+use Rattle.rules.proofs.Refusals.{NoneUnder, Tables, none_more, none_under_one, none_at_all, refused-whole, tables_of, link_within, no_circle}
+use Rattle.planner.specs.Places.{AllJoined}
 use Rattle.planner.specs.Rounds.{Named, Square, circles}
-use Rattle.planner.specs.Multiples.{Multiple}
+use Rattle.planner.specs.Multiples.{MultipleAt}
 use Rattle.planner.specs.Internal.{between, deadline_over, criticality_over}
-use Rattle.planner.specs.Stages.{refused_plan, WorkedOut}
+use Rattle.planner.specs.Stages.{refused_plan, Refused, WorkedOut, Planned}
 use Rattle.planner.proofs.Tested.{Told}
 use Rattle.planner.proofs.Multiples.{multiple_right}
 use Rattle.planner.proofs.Internals.{deadline-right, criticality-right}
@@ -37,7 +36,8 @@ module _ (tw cw : List ℕ) where
   -- -------------------------------------------------------------------------------------------------------------------------
   -- A refusal
 
-  pub plan_refused : (f : code.Refusal) (r : Plan) → Refusal tw cw (number_of f) (place_of f) → r ≡ refused_plan f → PlanIs tw cw r
+  -- zeros throughout, with the refusal
+  pub plan_refused : (f : code.Refusal) (r : Plan) → Refused tw cw f → r ≡ refused_plan f → PlanIs tw cw r
   plan_refused f r because e =
       subst (PlanIs tw cw) (sym e)
       (record {
@@ -70,32 +70,27 @@ module _ (tw cw : List ℕ) where
   row_words_passed none f = none_more tw cw 2 none (λ q b. row_words.if_false f b.1)
 
   -- by a test of each place: 3, 4, 5 and 7
-  module _ (number n p : ℕ) (told : Told tw cw number n) (none : NoneUnder tw cw number) (e : p ≡ first_of (stands tw cw number) n) where
-    pub place_refused : p < n → Refusal tw cw number p
-    place_refused h = rw e (first_refused tw cw number n (stands tw cw number) told.says told.said none (rw e at h))
+  module _ (number n : ℕ) (test : ℕ → Bool) (told : Told tw cw number n test) (none : NoneUnder tw cw number) where
+    pub place_refused : (p : ℕ) → (p < n) × (test p ≡ true) × ((q : ℕ) → q < p → test q ≡ false) → Refusal tw cw number p
+    place_refused p w = record {
+      stands = told.said p (w.0, w.1);
+      first = λ q h b. true_false (sym (told.says q b).1 ∙ w.2 q h);
+      lowest = none;
+    }
 
-    pub place_passed : n ≤ p → NoneUnder tw cw (suc number)
-    place_passed h = first_passed tw cw number n (stands tw cw number) told.says told.said none (rw e at h)
-
-  pub task_readable : (p : ℕ) → p < count tw → Readable tw cw 3 p
-  task_readable p h = record { task = λ e. h; row = λ ne. absurd (ne refl); joined = λ ne. absurd (ne refl) }
-
-  pub row_readable : (p : ℕ) → p < rows cw → Readable tw cw 4 p
-  row_readable p h = record { task = λ e. absurd (omega (arith, e)); row = λ ne. h; joined = λ ne nf. absurd (nf refl) }
+    pub place_passed : ((p : ℕ) → p < n → test p ≡ false) → NoneUnder tw cw (suc number)
+    place_passed w = none_more tw cw number none (λ q b. let t = told.says q b in true_false (sym t.1 ∙ w q t.0))
 
   module _ (ts : Tables tw cw) where
-    pub joined_readable : (number p : ℕ) → (number ≡ 3 → ⊥) → p < rows cw → Readable tw cw number p
-    joined_readable number p other h =
+    pub all_joined : AllJoined tw cw
+    all_joined p h =
         let w = ts.joins p h in
         record {
-          task = λ e. absurd (other e);
-          row = λ ne. h;
-          joined = λ ne nf. record {
-            sender_task = w.sender_task;
-            receiver_task = w.receiver_task;
-            sender_period = (ts.sizes (sender cw p) w.sender_task).period_low;
-            receiver_period = (ts.sizes (receiver cw p) w.receiver_task).period_low;
-          };
+          row = h;
+          sender_task = w.sender_task;
+          receiver_task = w.receiver_task;
+          sender_period = (ts.sizes (sender cw p) w.sender_task).period_low;
+          receiver_period = (ts.sizes (receiver cw p) w.receiver_task).period_low;
         }
 
     pub rows_named : Named cw
@@ -105,36 +100,26 @@ module _ (tw cw : List ℕ) where
         (omega (arith, w.sender_task), omega (arith, w.receiver_task))
 
     -- by the square: 6
-    module _
-        (sq : List (List ℕ)) (s : Square (Link cw) (count tw) sq) (none : NoneUnder tw cw 6) (p : ℕ)
-        (e : p ≡ first_of (circles sq) (count tw))
+    pub circles-told : (sq : List (List ℕ)) → Square (Link cw) (count tw) sq → Told tw cw 6 (count tw) (circles sq)
+    circles-told sq s = record {
+      says = λ q b. (
+        b.0,
+        lt-ltb 0 (between sq q q)
+            (upto_reached (Link cw) (count tw) ts.lengths.some (link_within tw cw ts) q q (between sq q q) (upto q b.0) b.1),
+      );
+      said = λ q w. (w.0, upto_reaches (Link cw) (count tw) q q (between sq q q) (upto q w.0) (ltb-true 0 (between sq q q) w.1));
+    }
       where
         upto : (q : ℕ) → q < count tw → Upto (Link cw) (count tw) q q (between sq q q)
         upto q h = s q h q (omega (arith, ts.lengths.tasks_most))
 
-        says : (q : ℕ) → Bad tw cw 6 q → (q < count tw) × (circles sq q ≡ true)
-        says q b = (
-          b.0,
-          lt-ltb 0 (between sq q q)
-              (upto_reached (Link cw) (count tw) ts.lengths.some (link_within tw cw ts) q q (between sq q q) (upto q b.0) b.1),
-        )
-
-        said : (q : ℕ) → (q < count tw) × (circles sq q ≡ true) → Bad tw cw 6 q
-        said q w = (w.0, upto_reaches (Link cw) (count tw) q q (between sq q q) (upto q w.0) (ltb-true 0 (between sq q q) w.1))
-
-        pub circle_refused : p < count tw → Refusal tw cw 6 p
-        circle_refused h = rw e (first_refused tw cw 6 (count tw) (circles sq) says said none (rw e at h))
-
-        pub circle_passed : count tw ≤ p → NoneUnder tw cw 7
-        circle_passed h = first_passed tw cw 6 (count tw) (circles sq) says said none (rw e at h)
-
   -- by the common multiple: 8
-  module _ (none : NoneUnder tw cw 8) (c : ℕ) (m : Multiple tw c) where
-    pub multiple_refused : c ≡ 0 → Refusal tw cw 8 0
-    multiple_refused z = refused-whole tw cw 8 none (refl, m.none z)
+  module _ (none : NoneUnder tw cw 8) where
+    pub multiple_refused : ((c : ℕ) → 0 < c → c ≤ most_multiple → Common tw c → ⊥) → Refusal tw cw 8 0
+    multiple_refused over = refused-whole tw cw 8 none (refl, over)
 
-    pub multiple_passed : 0 < c → Sound tw cw
-    multiple_passed h = none_at_all tw cw (none_more tw cw 8 none (λ q b. b.1 c h m.small (m.is h).0))
+    pub multiple_passed : (c : ℕ) → MultipleAt tw c → Sound tw cw
+    multiple_passed c m = none_at_all tw cw (none_more tw cw 8 none (λ q b. b.1 c m.some m.small m.common))
 
   -- -------------------------------------------------------------------------------------------------------------------------
   -- A plan
@@ -143,7 +128,7 @@ module _ (tw cw : List ℕ) where
   column-zero_from f l e = (ap length e ∙ column-length f (count tw) 0 most_tasks, λ p h. rw e (column-past f (count tw) 0 most_tasks p h))
 
   module _
-      (sound : Sound tw cw) (sq : List (List ℕ)) (s : Square (Link cw) (count tw) sq) (c : ℕ) (some : 0 < c) (m : Multiple tw c) (r : Plan)
+      (sound : Sound tw cw) (sq : List (List ℕ)) (s : Square (Link cw) (count tw) sq) (c : ℕ) (m : MultipleAt tw c) (r : Plan)
       (w : WorkedOut tw sq c r)
     where
       ts : Tables tw cw
@@ -166,11 +151,14 @@ module _ (tw cw : List ℕ) where
             (column-is (λ q. criticality_over tw sq q (count tw)) r.criticalities i w.criticalities_are h)
             (criticality-right tw cw ts sq s free i h);
         order_is = w.ordered.in_order;
-        multiple_is = rw w.multiple_is (multiple_right tw c some m);
+        multiple_is = rw w.multiple_is (multiple_right tw c m);
         order_past = w.ordered.past;
         deadlines_past = column-zero_from (λ i. deadline_over tw sq i (count tw)) r.deadlines w.deadlines_are;
         criticalities_past = column-zero_from (λ i. criticality_over tw sq i (count tw)) r.criticalities w.criticalities_are;
       }
 
-      pub plan_accepted : PlanIs tw cw r
-      plan_accepted = subst (λ (v : Result (Unit {0}) code.Refusal). Judges tw cw v r) (sym (verdict_says-injective r.verdict (Ok tt) w.accepted)) accepts
+      pub plan_accepted : Planned tw cw r
+      plan_accepted = record { accepted = w.accepted; accepts = accepts }
+
+  pub plan_is : (r : Plan) → Planned tw cw r → PlanIs tw cw r
+  plan_is r w = subst (λ (v : Result (Unit {0}) code.Refusal). Judges tw cw v r) (sym w.accepted) w.accepts

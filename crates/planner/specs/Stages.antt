@@ -3,16 +3,22 @@ use Rattle.std.specs.Prelude.{◌≡◌, List, ℕ, replicate, Ok, Err}
 use Rattle.rules.specs.Sizes.{most_tasks}
 use Rattle.rules.specs.Tables.{count}
 use Rattle.rules.specs.Counting.{column}
-use Rattle.rules.specs.Answers.{verdict_says}
-use Rattle.rules.specs.declared.Plan.{Plan}
+use Rattle.rules.specs.Refusals as listed
+use Rattle.rules.specs.Answers.{number_of, place_of}
 use Rattle.rules.specs.declared.Refusal.{Refusal}
+use Rattle.rules.specs.Plan.{Accepts}
+use Rattle.rules.specs.declared.Plan.{Plan}
 use Rattle.planner.specs.Internal.{deadline_over, criticality_over}
 use Rattle.planner.specs.Sorting.{Ordered}
 
+-- the refusal of the list that stands against the tables
+abbrev pub Refused : List ℕ → List ℕ → Refusal → Type 0
+Refused tw cw f = listed.Refusal tw cw (number_of f) (place_of f)
+
 -- "a refused planner answers zeros throughout"
 abbrev pub refused_plan : Refusal → Plan
-refused_plan refusal = record {
-  verdict = Err refusal;
+refused_plan f = record {
+  verdict = Err f;
   order = replicate most_tasks 0;
   deadlines = replicate most_tasks 0;
   criticalities = replicate most_tasks 0;
@@ -21,8 +27,13 @@ refused_plan refusal = record {
 
 -- the plan that is worked out from the square of chains and the common multiple
 pub record WorkedOut (tw : List ℕ) (sq : List (List ℕ)) (multiple : ℕ) (r : Plan) : Type 0 where
-  pub accepted : verdict_says r.verdict ≡ verdict_says (Ok tt)
+  pub accepted : r.verdict ≡ Ok tt
   pub deadlines_are : r.deadlines ≡ column (λ i. deadline_over tw sq i (count tw)) (count tw) 0 most_tasks
   pub criticalities_are : r.criticalities ≡ column (λ i. criticality_over tw sq i (count tw)) (count tw) 0 most_tasks
   pub ordered : Ordered r.deadlines r.criticalities (count tw) r.order
   pub multiple_is : r.multiple ≡ multiple
+
+-- a plan of tables that are not refused
+pub record Planned (tw cw : List ℕ) (r : Plan) : Type 0 where
+  pub accepted : r.verdict ≡ Ok tt
+  pub accepts : Accepts tw cw r

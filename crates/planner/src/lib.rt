@@ -1,12 +1,13 @@
 // The planner: the order in which the tasks run, worked out from the two tables, or the first refusal that stands against them.
 #![tactic(auto)]
 
-ghost use Rattle.std.specs.Prelude.{◌≡◌};
+ghost use Rattle.std.specs.Prelude.{◌≡◌, MatchResult};
 ghost use Rattle.rules.specs.Plan.{PlanIs};
 ghost use Rattle.rules.proofs.Refusals.{NoneUnder};
 ghost use Rattle.planner.specs.Internal.{Workable};
-ghost use Rattle.planner.specs.Stages.{refused_plan, WorkedOut};
+ghost use Rattle.planner.specs.Stages.{refused_plan, WorkedOut, Refused, Planned};
 
+use places::Tables;
 use rules::{Plan, Refusal};
 
 mod chains;
@@ -21,9 +22,9 @@ fn refused(refusal: Refusal) -> Plan
 {
     Plan {
         verdict: Err(refusal),
-        order: [0u8; 32],
-        deadlines: [0u32; 32],
-        criticalities: [0u8; 32],
+        order: [0; 32],
+        deadlines: [0; 32],
+        criticalities: [0; 32],
         multiple: 0,
     }
 }
@@ -34,74 +35,79 @@ fn worked_out(tasks: &[u16], chains: &[[u8; 32]; 32], multiple: u32) -> Plan
     ensures { WorkedOut tasks.now chains.now multiple result }
 {
     let columns = internal::columns_of(tasks, chains);
-    let deadlines = columns.deadlines;
-    let criticalities = columns.criticalities;
-    let order = order::sort(&deadlines, &criticalities, tasks.len() / 5);
     Plan {
         verdict: Ok(()),
-        order,
-        deadlines,
-        criticalities,
+        order: order::sort(&columns, tasks.len() / 5),
+        deadlines: columns.deadlines,
+        criticalities: columns.criticalities,
         multiple,
     }
 }
 
-// Refusals 5 to 8, and the plan where none stands.
-fn plan_chains(tasks: &[u16], connections: &[u16]) -> Plan
-    requires { NoneUnder tasks.now connections.now 5 }
-    ensures { PlanIs tasks.now connections.now result }
+// Refusals 1 and 2, by the lengths.
+fn check_lengths(tables: Tables) -> Result<(), Refusal>
+    ensures { MatchResult result (λ _. NoneUnder tables.entry.tasks.now tables.entry.connections.now 3) (Refused tables.entry.tasks.now tables.entry.connections.now) }
 {
-    let count = tasks.len() / 5;
-    let rows = connections.len() / 3;
-    let uneven = places::first_place(tasks, connections, 5, rows);
-    if uneven < rows {
-        return refused(Refusal::Uneven(uneven));
+    let words = tables.tasks.len();
+    if (words % 5 != 0) | (words == 0) | (160 < words) {
+        return Err(Refusal::TaskWords);
     }
-    let chains = chains::square(connections, count as u8);
-    let circle = chains::first_circle(&chains, count);
-    if circle < count {
-        return refused(Refusal::Circle(circle));
+    let words = tables.connections.len();
+    if (words % 3 != 0) | (192 < words) {
+        return Err(Refusal::ConnectionWords);
     }
-    let raised = places::first_place(tasks, connections, 7, rows);
-    if raised < rows {
-        return refused(Refusal::Raised(raised));
-    }
-    let multiple = multiple::multiple_of(tasks);
-    if multiple == 0 {
-        return refused(Refusal::Multiple);
-    }
-    worked_out(tasks, &chains, multiple)
+    Ok(())
 }
 
-// Refusals 3 and 4, and what follows.
-fn plan_rows(tasks: &[u16], connections: &[u16]) -> Plan
-    requires { NoneUnder tasks.now connections.now 3 }
-    ensures { PlanIs tasks.now connections.now result }
+// Refusals 3 and 4, by each task and row.
+fn check_values(tables: Tables) -> Result<(), Refusal>
+    requires { NoneUnder tables.tasks.now tables.connections.now 3 }
+    ensures { MatchResult result (λ _. NoneUnder tables.entry.tasks.now tables.entry.connections.now 5) (Refused tables.entry.tasks.now tables.entry.connections.now) }
 {
-    let count = tasks.len() / 5;
-    let rows = connections.len() / 3;
-    let unfit = places::first_place(tasks, connections, 3, count);
-    if unfit < count {
-        return refused(Refusal::TaskValue(unfit));
+    if let Some(task) = tables.first_misfit() {
+        return Err(Refusal::TaskValue(task));
     }
-    let unjoined = places::first_place(tasks, connections, 4, rows);
-    if unjoined < rows {
-        return refused(Refusal::ConnectionValue(unjoined));
+    if let Some(row) = tables.first_stray() {
+        return Err(Refusal::ConnectionValue(row));
     }
-    plan_chains(tasks, connections)
+    Ok(())
+}
+
+// Refusals 5 to 8, and the plan where none stands.
+fn plan_chains(tables: Tables) -> Result<Plan, Refusal>
+    requires { NoneUnder tables.tasks.now tables.connections.now 5 }
+    ensures { MatchResult result (Planned tables.entry.tasks.now tables.entry.connections.now) (Refused tables.entry.tasks.now tables.entry.connections.now) }
+{
+    let count = tables.count();
+    if let Some(row) = tables.first_uneven() {
+        return Err(Refusal::Uneven(row));
+    }
+    let chains = chains::square(tables.connections, count as u8);
+    if let Some(task) = chains::first_circle(&chains, count) {
+        return Err(Refusal::Circle(task));
+    }
+    if let Some(row) = tables.first_raised() {
+        return Err(Refusal::Raised(row));
+    }
+    let multiple = multiple::multiple_of(tables.tasks).ok_or(Refusal::Multiple)?;
+    Ok(worked_out(tables.tasks, &chains, multiple))
+}
+
+// The plan, or the first refusal.
+fn planned(tables: Tables) -> Result<Plan, Refusal>
+    ensures { MatchResult result (Planned tables.entry.tasks.now tables.entry.connections.now) (Refused tables.entry.tasks.now tables.entry.connections.now) }
+{
+    check_lengths(tables)?;
+    check_values(tables)?;
+    plan_chains(tables)
 }
 
 // The plan of any two tables.
 pub fn plan(tasks: &[u16], connections: &[u16]) -> Plan
     ensures { PlanIs tasks.now connections.now result }
 {
-    let words = tasks.len();
-    if (words % 5 != 0) | (words == 0) | (160 < words) {
-        return refused(Refusal::TaskWords);
+    match planned(Tables { tasks, connections }) {
+        Ok(plan) => plan,
+        Err(refusal) => refused(refusal),
     }
-    let more = connections.len();
-    if (more % 3 != 0) | (192 < more) {
-        return refused(Refusal::ConnectionWords);
-    }
-    plan_rows(tasks, connections)
 }
