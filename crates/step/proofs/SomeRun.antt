@@ -6,21 +6,21 @@ use mathlib.Core.List.{List, [], ◌∷◌}
 use Prim.Native.Nat.{ℕ, ◌*◌, ◌≤◌}
 use native.Mathlib.Omega.{arith}
 use lib.ListN.{length, replicate, length-append, length-replicate}
-use lib.Seq.{sets, take_all}
+use lib.Seq.{sets}
 use lib.Dec.{ltb}
-use Rattle.rules.specs.Calls.{tick_of, complete_of}
 use Rattle.rules.specs.declared.State.{State}
 use Rattle.rules.specs.declared.Step.{Step}
 use Rattle.rules.specs.declared.Answer.{Answer}
 use Rattle.rules.specs.declared.Answer.TheVariants as answer
 use Rattle.calls.specs.Line.{call_of}
 use Rattle.calls.specs.declared.Call.{Call}
-use Rattle.calls.specs.declared.Call.TheVariants.{Tick, Complete, Bad}
+use Rattle.calls.specs.declared.BadLine.{BadLine}
+use Rattle.std.specs.Prelude.{Result, Ok, Err}
 use Rattle.text.specs.Lines.{answer_line}
 use Rattle.text.specs.Buffers.{Put}
 use Rattle.text.proofs.Filling.{line_fits}
 use Rattle.text.proofs.Lengths.{most_answer, answer_length}
-use Rattle.step.specs.Session.{obeyed, ends, Moment, moment, answered, next, printed, after, text, last}
+use Rattle.step.specs.Session.{step_of, obeyed, ends, Moment, moment, answered, next, printed, after, text, last}
 use Rattle.step.specs.Opening.{OpenIs}
 use Rattle.step.specs.Serving.{moment_of, Serves}
 use Rattle.step.specs.Running.{Says, Says.line, AllServed, AllServed.ended, AllServed.piece, Ran}
@@ -29,8 +29,7 @@ use Rattle.step.proofs.Runs.{kind}
 
 obeyed-length : (s : State) (c : Result Call BadLine) → length (obeyed s c).line ≤ most_answer
 unfolding obeyed
-obeyed-length s (Ok Tick) = answer_length (tick_of s).answer
-obeyed-length s (Ok (Complete w)) = answer_length (complete_of s w).answer
+obeyed-length s (Ok call) = answer_length (step_of s call).answer
 obeyed-length s (Err e) = omega arith
 
 -- a line or nothing

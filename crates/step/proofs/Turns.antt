@@ -1,12 +1,15 @@
 -- One byte more of a piece: the desk is the moment behind the bytes so far, and what they print stands in front of the buffer, 50 bytes at
 -- most for each of them.
 use mathlib.Core.Path.{◌≡◌, refl, sym, subst, ◌∙◌}
-use mathlib.Core.List.{List, [], append-nil}
+use mathlib.Core.Bool.{true, false}
+use mathlib.Core.List.{List, [], ◌∷◌, append-nil}
+use lib.Dec.{eqb}
+use Rattle.rules.proofs.Tests.{false_true}
 use Prim.Native.Nat.{ℕ, ◌+◌, ◌*◌, ◌≤◌, ◌<◌}
 use native.Mathlib.Omega.{arith}
 use lib.ListN.{length, take, get_or}
 use lib.Seq.{take_all}
-use borrow.Author.Tests.{eq-eqb, ne_eqb, lt-ltb}
+use borrow.Author.Tests.{eqb-true, eq-eqb, ne_eqb, lt-ltb}
 use Rattle.rules.specs.Answers.{StepIs}
 use Rattle.rules.specs.declared.State.{State}
 use Rattle.rules.specs.declared.Step.{Step}
@@ -81,10 +84,12 @@ prints_step want r {out} {out'} {at} {x} {z} h p =
     subst (λ (s : Step). Prints (said s.state (answer_line s.answer)) out at z x out') (step_is want r h) p
 
 -- the input's end, with no byte of a line and with some
-pub finish_none : (s : State) (line out : List ℕ) → line ≡ [] → Put 50 out 0 (last (moment s line)) 0 out
+pub finish_none : (s : State) (line out : List ℕ) → eqb (length line) 0 ≡ true → Put 50 out 0 (last (moment s line)) 0 out
 unfolding last
-finish_none s line out e = rw e (put_more (omega arith) (put_none out 0))
+finish_none s [] out e = put_more (omega arith) (put_none out 0)
+finish_none s (x ∷ line) out e = let z = eqb-true (length (x ∷ line)) 0 e in absurd (omega arith)
 
-pub finish_line : (s : State) (line : List ℕ) → 0 < length line → last (moment s line) ≡ (obeyed s (call_of line)).line
+pub finish_line : (s : State) (line : List ℕ) → eqb (length line) 0 ≡ false → last (moment s line) ≡ (obeyed s (call_of line)).line
 unfolding last
-finish_line s line h = rw (lt-ltb 0 (length line) h)
+finish_line s [] e = absurd (false_true (sym e))
+finish_line s (x ∷ line) e = rw (lt-ltb 0 (length (x ∷ line)) (omega arith))

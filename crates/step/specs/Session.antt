@@ -3,6 +3,7 @@
 use Rattle.std.specs.Prelude.{Bool, cond, List, [], ◌∷◌, ◌++◌, ℕ, length, take, ltb, eqb, Result, Ok, Err}
 use Rattle.rules.specs.Calls.{tick_of, complete_of}
 use Rattle.rules.specs.declared.State.{State}
+use Rattle.rules.specs.declared.Step.{Step}
 use Rattle.calls.specs.Line.{call_of}
 use Rattle.calls.specs.declared.Call.{Call}
 use Rattle.calls.specs.declared.Call.TheVariants.{Tick, Complete}
@@ -17,9 +18,12 @@ pub record Said : Type 0 where
 abbrev pub said : State → List ℕ → Said
 said s l = record { state = s; line = l }
 
+abbrev pub step_of : State → Call → Step
+step_of s Tick = tick_of s
+step_of s (Complete w) = complete_of s w
+
 unfoldable pub obeyed : State → Result Call BadLine → Said
-obeyed s (Ok Tick) = said (tick_of s).state (answer_line (tick_of s).answer)
-obeyed s (Ok (Complete w)) = said (complete_of s w).state (answer_line (complete_of s w).answer)
+obeyed s (Ok call) = said (step_of s call).state (answer_line (step_of s call).answer)
 obeyed s (Err _) = said s bad_line
 
 -- a line ends at byte 10; a last line without it counts if it has a byte

@@ -1,12 +1,14 @@
 // Calls answered one by one, and bytes served in pieces of any size.
 ghost use Rattle.std.specs.Prelude.{◌+◌, ◌*◌, ◌≤◌, length};
 ghost use Rattle.io.specs.Counts.{IsPrefixLen};
-ghost use Rattle.step.specs.Session.{obeyed};
+ghost use Rattle.rules.specs.Answers.{StepIs};
+ghost use Rattle.rules.specs.Steps.{step};
+ghost use Rattle.step.specs.Session.{step_of, obeyed};
 ghost use Rattle.step.specs.Serving.{Prints, Serves, Finishes};
 
 use crate::held::Held;
 use calls::{BadLine, Call};
-use rules::State;
+use rules::{Answer, State};
 
 // Between two bytes: the state, and the line that has begun.
 #[derive(Drop)]
@@ -15,22 +17,24 @@ pub(crate) struct Desk {
     pub(crate) line: Held,
 }
 
-// One call: its answer is printed at a place.
-fn obey(
-    state: &mut State,
-    call: Result<Call, BadLine>,
-    out: &mut [u8],
-    at: usize,
-) -> usize
+fn called(state: &mut State, call: Call) -> Answer
+    ensures { StepIs (step_of state.old call) (step result state.new) }
+{
+    match call {
+        Call::Tick => executive::tick(state),
+        Call::Complete(word) => executive::complete(state, word),
+    }
+}
+
+// One line: its answer is printed at a place.
+fn obey(state: &mut State, call: Result<Call, BadLine>, out: &mut [u8], at: usize) -> usize
     requires { at + 50 ≤ length out.old }
     ensures { Prints (obeyed state.old call) out.old at state.new result out.new }
 {
-    let answer = match call {
-        Ok(Call::Tick) => executive::tick(state),
-        Ok(Call::Complete(word)) => executive::complete(state, word),
-        Err(BadLine) => return text::bad_line(out, at),
+    let Ok(call) = call else {
+        return text::bad_line(out, at);
     };
-    text::answer_line(answer, out, at)
+    text::answer_line(called(state, call), out, at)
 }
 
 impl Desk {
