@@ -16,8 +16,9 @@ use Rattle.rules.specs.Order.{IsDeadline, IsCriticality}
 use Rattle.rules.specs.Refusals.{Bad, Refusal, Sound}
 use Rattle.rules.specs.Plan.{ZeroFrom, Accepts, Judges, PlanIs}
 use Rattle.rules.specs.declared.Plan.{Plan}
-use Rattle.rules.specs.declared.Verdict.{Verdict}
-use Rattle.rules.specs.declared.Verdict.TheVariants as verdict
+use Rattle.std.specs.Prelude.{Result, Ok}
+use Rattle.rules.specs.Answers.{number_of, place_of}
+use Rattle.rules.specs.declared.Refusal as code
 use Rattle.rules.proofs.Answers.{verdict_says-injective}
 use Rattle.rules.proofs.Deciding.{Decision, lt, equal, fails, either, restated}
 use Rattle.rules.proofs.Counting.{replicate_at, column-at, column-past, column-length}
@@ -36,8 +37,8 @@ module _ (tw cw : List ℕ) where
   -- -------------------------------------------------------------------------------------------------------------------------
   -- A refusal
 
-  pub plan_refused : (number place : ℕ) (r : Plan) → Refusal tw cw number place → r ≡ refused_plan number place → PlanIs tw cw r
-  plan_refused number place r because e =
+  pub plan_refused : (f : code.Refusal) (r : Plan) → Refusal tw cw (number_of f) (place_of f) → r ≡ refused_plan f → PlanIs tw cw r
+  plan_refused f r because e =
       subst (PlanIs tw cw) (sym e)
       (record {
         because = because;
@@ -172,4 +173,4 @@ module _ (tw cw : List ℕ) where
       }
 
       pub plan_accepted : PlanIs tw cw r
-      plan_accepted = subst (λ (v : Verdict). Judges tw cw v r) (sym (verdict_says-injective r.verdict verdict.Accepted w.accepted)) accepts
+      plan_accepted = subst (λ (v : Result (Unit {0}) code.Refusal). Judges tw cw v r) (sym (verdict_says-injective r.verdict (Ok tt) w.accepted)) accepts

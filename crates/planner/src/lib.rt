@@ -7,7 +7,7 @@ ghost use Rattle.rules.proofs.Refusals.{NoneUnder};
 ghost use Rattle.planner.specs.Internal.{Workable};
 ghost use Rattle.planner.specs.Stages.{refused_plan, WorkedOut};
 
-use rules::{Plan, Verdict};
+use rules::{Plan, Refusal};
 
 mod chains;
 mod internal;
@@ -15,12 +15,12 @@ mod multiple;
 mod order;
 mod places;
 
-// Zeros throughout, with the refusal's number and place.
-fn refused(number: usize, place: usize) -> Plan
-    ensures { result ≡ refused_plan number place }
+// Zeros throughout, with the refusal.
+fn refused(refusal: Refusal) -> Plan
+    ensures { result ≡ refused_plan refusal }
 {
     Plan {
-        verdict: Verdict::Refused(number, place),
+        verdict: Err(refusal),
         order: [0u8; 32],
         deadlines: [0u32; 32],
         criticalities: [0u8; 32],
@@ -38,7 +38,7 @@ fn worked_out(tasks: &[u16], chains: &[[u8; 32]; 32], multiple: u32) -> Plan
     let criticalities = columns.criticalities;
     let order = order::sort(&deadlines, &criticalities, tasks.len() / 5);
     Plan {
-        verdict: Verdict::Accepted,
+        verdict: Ok(()),
         order,
         deadlines,
         criticalities,
@@ -55,20 +55,20 @@ fn plan_chains(tasks: &[u16], connections: &[u16]) -> Plan
     let rows = connections.len() / 3;
     let uneven = places::first_place(tasks, connections, 5, rows);
     if uneven < rows {
-        return refused(5, uneven);
+        return refused(Refusal::Uneven(uneven));
     }
     let chains = chains::square(connections, count as u8);
     let circle = chains::first_circle(&chains, count);
     if circle < count {
-        return refused(6, circle);
+        return refused(Refusal::Circle(circle));
     }
     let raised = places::first_place(tasks, connections, 7, rows);
     if raised < rows {
-        return refused(7, raised);
+        return refused(Refusal::Raised(raised));
     }
     let multiple = multiple::multiple_of(tasks);
     if multiple == 0 {
-        return refused(8, 0);
+        return refused(Refusal::Multiple);
     }
     worked_out(tasks, &chains, multiple)
 }
@@ -82,11 +82,11 @@ fn plan_rows(tasks: &[u16], connections: &[u16]) -> Plan
     let rows = connections.len() / 3;
     let unfit = places::first_place(tasks, connections, 3, count);
     if unfit < count {
-        return refused(3, unfit);
+        return refused(Refusal::TaskValue(unfit));
     }
     let unjoined = places::first_place(tasks, connections, 4, rows);
     if unjoined < rows {
-        return refused(4, unjoined);
+        return refused(Refusal::ConnectionValue(unjoined));
     }
     plan_chains(tasks, connections)
 }
@@ -97,11 +97,11 @@ pub fn plan(tasks: &[u16], connections: &[u16]) -> Plan
 {
     let words = tasks.len();
     if (words % 5 != 0) | (words == 0) | (160 < words) {
-        return refused(1, 0);
+        return refused(Refusal::TaskWords);
     }
     let more = connections.len();
     if (more % 3 != 0) | (192 < more) {
-        return refused(2, 0);
+        return refused(Refusal::ConnectionWords);
     }
     plan_rows(tasks, connections)
 }

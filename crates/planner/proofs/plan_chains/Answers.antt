@@ -1,5 +1,6 @@
 -- 5 to 8 come in turn: each by the first place where it stands, 6 by the square of chains, 8 by the common multiple; and where none
 -- stands, what is worked out is the plan.
+use Rattle.rules.specs.declared.Refusal.TheVariants.{Circle, Multiple, Raised, Uneven}
 use Rattle.std.proofs.Common.{arith}
 use Rattle.rules.proofs.Refusals.{tables_under}
 use Rattle.planner.proofs.Tested.{uneven-told, raised-told}
@@ -15,7 +16,7 @@ pub returns-then-uneven-rows : goal.returns-then-uneven-rows
 returns-then-uneven-rows c =
     let tw = c.args.tasks.now in
     let cw = c.args.connections.now in
-    plan_refused tw cw 5 _ _
+    plan_refused tw cw (Uneven _) _
     (place_refused tw cw 5 _ _ (uneven-told tw cw) c.requires c.first_place-uneven.ensures c.if-uneven-rows.true) c.refused.ensures
 
 pub square-chains-requires : goal.square-chains-requires
@@ -30,7 +31,7 @@ returns-then-circle-count c =
     let ts = tables_under tw cw c.requires in
     let sq = c.square-chains in
     let six = place_passed tw cw 5 _ _ (uneven-told tw cw) c.requires c.first_place-uneven.ensures c.if-uneven-rows.false in
-    plan_refused tw cw 6 _ _
+    plan_refused tw cw (Circle _) _
     (circle_refused tw cw ts sq.result sq.ensures six _ c.first_circle-circle.ensures c.if-circle-count.true) c.refused-then-circle-count.ensures
 
 pub first_place-raised-requires : goal.first_place-raised-requires
@@ -45,7 +46,7 @@ returns-then-raised-rows c =
     let sq = c.square-chains in
     let six = place_passed tw cw 5 _ _ (uneven-told tw cw) c.requires c.first_place-uneven.ensures c.if-uneven-rows.false in
     let seven = circle_passed tw cw ts sq.result sq.ensures six _ c.first_circle-circle.ensures c.if-circle-count.false in
-    plan_refused tw cw 7 _ _
+    plan_refused tw cw (Raised _) _
     (place_refused tw cw 7 _ _ (raised-told tw cw) seven c.first_place-raised.ensures c.if-raised-rows.true) c.refused-then-raised-rows.ensures
 
 pub multiple_of-multiple-requires : goal.multiple_of-multiple-requires
@@ -60,7 +61,7 @@ returns-then-multiple-eq0 c =
     let six = place_passed tw cw 5 _ _ (uneven-told tw cw) c.requires c.first_place-uneven.ensures c.if-uneven-rows.false in
     let seven = circle_passed tw cw ts sq.result sq.ensures six _ c.first_circle-circle.ensures c.if-circle-count.false in
     let eight = place_passed tw cw 7 _ _ (raised-told tw cw) seven c.first_place-raised.ensures c.if-raised-rows.false in
-    plan_refused tw cw 8 _ _ (multiple_refused tw cw eight _ c.multiple_of-multiple.ensures c.if-multiple-eq0.true) c.refused-then-multiple-eq0.ensures
+    plan_refused tw cw Multiple _ (multiple_refused tw cw eight _ c.multiple_of-multiple.ensures c.if-multiple-eq0.true) c.refused-then-multiple-eq0.ensures
 
 pub worked_out-requires : goal.worked_out-requires
 worked_out-requires c =
