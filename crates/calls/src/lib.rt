@@ -31,7 +31,8 @@ fn word(digits: &[u8]) -> Result<u32, BadLine>
     u32::try_from(number).map_err(|_| BadLine)
 }
 
-// `t`, or `c`, a space and a word; the line's end is not part of it.
+// `t`, or `c`, a space and a word; the line's end is not part of it. A public function by this name, which its statement cites: a
+// `TryFrom` beside it would be a second way to ask the same.
 #[tactic(auto, using(crate::proofs::Decode::call_none, crate::proofs::Decode::call_letter, crate::proofs::Decode::call_longer))]
 pub fn call_of(line: &[u8]) -> Result<Call, BadLine>
     ensures { result ≡ call_of line.now }

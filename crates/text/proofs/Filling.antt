@@ -4,11 +4,10 @@ use mathlib.Core.List.{List, [], ◌++◌}
 use Prim.Native.Nat.{ℕ, ◌+◌, ◌-◌, ◌≤◌, ◌<◌}
 use native.Mathlib.Omega.{arith}
 use lib.ListN.{length, take, drop, length-append}
-use lib.Seq.{sets-eq, take_all, take-append_seam}
+use lib.Seq.{sets-eq, take-append_seam}
 use borrow.Author.Tests.{le-leb, lt-leb}
 use borrow.Rule.Slice.PartMut.{put_mid}
-use Rattle.std.proofs.lemmas.Slice.{put_mid-paste}
-use Rattle.rules.proofs.Parts.{sets_then}
+use Rattle.rules.proofs.Parts.{sets_then, copied_over}
 use Rattle.text.specs.Buffers.{Put, Line}
 
 pub put_none : (out : List ℕ) (at : ℕ) → Put 0 out at [] at out
@@ -40,7 +39,7 @@ pub line_over : (line out part : List ℕ) (at : ℕ) → at + length line ≤ l
     → Line line out at (at + length line) (put_mid at (at + length line - at) out part)
 line_over line out part at h e = record {
   place = rw (le-leb _ _ h) refl;
-  text = rw (le-leb _ _ h) (put_mid-paste at (at + length line - at) out part line (length line) e (omega arith) refl ∙ rw (take_all (length line) line (omega arith)) (sym (sets-eq line out at h)));
+  text = rw (le-leb _ _ h) (copied_over out line part at (at + length line - at) h (omega arith) e);
 }
 
 pub line_stays : (line out : List ℕ) (at : ℕ) → length out < at + length line → Line line out at at out

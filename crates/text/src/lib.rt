@@ -1,5 +1,6 @@
 // The lines that the programs print (01, "Numbers from the bench"), each put at a place of a lent buffer. A line that does not fit
-// there changes nothing.
+// there changes nothing. The buffer and the place stand side by side, and in no struct, since that is what the public promises
+// (`Line`) are said of.
 #![tactic(auto)]
 
 ghost use Rattle.std.specs.Prelude.{◌≡◌, List, ℕ, [], ◌++◌, ◌+◌, ◌≤◌, length, take};
