@@ -1,9 +1,9 @@
 -- The tests of refusals 3, 4, 5 and 7 at a place: what the code looks for is the first place with the test, and the test says what
 -- 01's list says.
-use mathlib.Core.Path.{◌≡◌, sym, ◌∙◌}
+use mathlib.Core.Path.{◌≡◌, sym}
 use mathlib.Core.Bool.{Bool, true, false}
 use mathlib.Core.List.{List}
-use Prim.Native.Nat.{ℕ, ◌<◌, ◌≤◌}
+use Prim.Native.Nat.{ℕ, ◌<◌}
 use native.Mathlib.Omega.{arith}
 use denote.Param.Members.{Mut}
 use denote.Ref.{Bor}

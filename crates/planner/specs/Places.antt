@@ -1,7 +1,7 @@
 -- Whether a refusal stands at a place, by tests of the words of a row: 3 of a task; 4, 5 and 7 of a connection.
 use Rattle.std.specs.Prelude.{◌≡◌, Bool, true, false, not, ◌&&◌, List, ℕ, ◌%◌, ◌<◌, Option, MatchOption, eqb, leb, ltb}
 use Rattle.rules.specs.Sizes.{longest_period, least_critical}
-use Rattle.rules.specs.Tables.{count, rows, period, deadline, compute, criticality, flag, sender, receiver, kind}
+use Rattle.rules.specs.Tables.{count, rows, period, sender, receiver, kind}
 use Rattle.rules.specs.Rows.{task_row_at, connection_row_at}
 use Rattle.rules.specs.declared.TaskRow.{TaskRow}
 use Rattle.rules.specs.declared.ConnectionRow.{ConnectionRow}
