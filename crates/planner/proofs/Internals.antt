@@ -1,19 +1,17 @@
 -- The internal numbers: the least that is worked out is at most each that it is worked out over, and is one of them; so with the
 -- square of longest chains it is what 01 asks.
-use mathlib.Core.Path.{◌≡◌, refl, sym, ◌∙◌}
-use mathlib.Core.Bool.{true, false, ◌&&◌}
+use mathlib.Core.Path.{◌≡◌, refl, ◌∙◌}
 use mathlib.Core.Logic.{◌⊎◌, inl, inr, ⊎_elim}
 use mathlib.Core.List.{List}
-use Prim.Native.Nat.{ℕ, zero, suc, ◌+◌, ◌-◌, ◌*◌, ◌≤◌, ◌<◌}
+use Prim.Native.Nat.{ℕ, zero, suc, ◌-◌, ◌*◌, ◌≤◌, ◌<◌}
 use native.Mathlib.Omega.{arith}
-use native.Mathlib.Numerals.{add-one}
 use lib.Dec.{ltb}
 use borrow.Author.Tests.{ltb-true, lt-ltb}
 use Rattle.rules.specs.Sizes.{parts}
 use Rattle.rules.specs.Tables.{count, deadline, criticality}
 use Rattle.rules.specs.Chains.{Link, Chain, Acyclic, Longest}
 use Rattle.rules.specs.Order.{IsDeadline, IsCriticality}
-use Rattle.rules.proofs.Tests.{by_test, lt_or, and_left, and_right, and_both, true_false, cond_true, cond_false}
+use Rattle.rules.proofs.Tests.{by_test, lt_or}
 use Rattle.rules.proofs.Chains.{Upto, chain_ends, upto_longest, upto_reached, longest_one}
 use Rattle.rules.proofs.Refusals.{Tables, link_within}
 use Rattle.planner.specs.Rounds.{Square}

@@ -8,7 +8,7 @@ use native.Mathlib.Omega.{arith}
 use native.Mathlib.Nat.{dvd-mod_iff, dvd_of_mod-eq-zero, mod-eq-zero_of_dvd, dvd-sub, le_of_dvd, dvd-add, dvd_trans, mod-lt, dvd_refl, one-dvd}
 use borrow.Author.Count.{below_more}
 use Rattle.rules.specs.Sizes.{most_multiple}
-use Rattle.rules.specs.Tables.{count, period}
+use Rattle.rules.specs.Tables.{period}
 use Rattle.rules.specs.Order.{IsMultiple}
 use Rattle.rules.proofs.Tests.{lt_or, eq_or}
 use Rattle.planner.specs.Multiples.{MeetAt, MultipleAt}

@@ -1,9 +1,9 @@
 -- The tests of refusals 3, 4, 5 and 7 at a place: what the code looks for is the first place with the test, and the test says what
 -- 01's list says.
-use mathlib.Core.Path.{◌≡◌, sym, ◌∙◌}
+use mathlib.Core.Path.{◌≡◌, sym}
 use mathlib.Core.Bool.{Bool, true, false}
 use mathlib.Core.List.{List}
-use Prim.Native.Nat.{ℕ, ◌<◌, ◌≤◌}
+use Prim.Native.Nat.{ℕ, ◌<◌}
 use native.Mathlib.Omega.{arith}
 use denote.Param.Members.{Mut}
 use denote.Ref.{Bor}
@@ -20,6 +20,7 @@ use Rattle.rules.specs.Refusals.{Bad}
 use Rattle.rules.proofs.Tests.{by_test}
 use Rattle.rules.proofs.Deciding.{Decision, fails}
 use Rattle.rules.proofs.DecidingRefusals as decide
+use Rattle.planner.specs.declared.places.Tables.{Tables}
 use Rattle.planner.specs.Places.{IsFirst, misfit_at, stray_at, uneven_at, raised_at}
 
 match_weaker :
@@ -56,15 +57,22 @@ module _ {P : ℕ → Type 0} (n : ℕ) (d : (q : ℕ) → Decision (P q)) where
   said : (q : ℕ) → (q < n) × ((d q).test ≡ true) → (q < n) × P q
   said q w = (w.0, (d q).if_true w.1)
 
-module _ (tw cw : List ℕ) where
-  pub sizes_told : Told tw cw 3 (count tw) (misfit_at tw)
-  sizes_told = record { says = says (count tw) (λ q. fails (decide.in_size tw q)); said = said (count tw) (λ q. fails (decide.in_size tw q)) }
+module _ (t : Tables) where
+  pub sizes_told : Told t.tasks.now t.connections.now 3 (count t.tasks.now) (misfit_at t)
+  sizes_told =
+      let d = λ (q : ℕ). fails (decide.in_size t.tasks.now q) in record { says = says (count t.tasks.now) d; said = said (count t.tasks.now) d }
 
-  pub joins-told : Told tw cw 4 (rows cw) (stray_at tw cw)
-  joins-told = record { says = says (rows cw) (λ q. fails (decide.joins tw cw q)); said = said (rows cw) (λ q. fails (decide.joins tw cw q)) }
+  pub joins-told : Told t.tasks.now t.connections.now 4 (rows t.connections.now) (stray_at t)
+  joins-told =
+      let d = λ (q : ℕ). fails (decide.joins t.tasks.now t.connections.now q) in
+      record { says = says (rows t.connections.now) d; said = said (rows t.connections.now) d }
 
-  pub uneven-told : Told tw cw 5 (rows cw) (uneven_at tw cw)
-  uneven-told = record { says = says (rows cw) (decide.uneven tw cw); said = said (rows cw) (decide.uneven tw cw) }
+  pub uneven-told : Told t.tasks.now t.connections.now 5 (rows t.connections.now) (uneven_at t)
+  uneven-told =
+      let d = decide.uneven t.tasks.now t.connections.now in
+      record { says = says (rows t.connections.now) d; said = said (rows t.connections.now) d }
 
-  pub raised-told : Told tw cw 7 (rows cw) (raised_at tw cw)
-  raised-told = record { says = says (rows cw) (decide.raised tw cw); said = said (rows cw) (decide.raised tw cw) }
+  pub raised-told : Told t.tasks.now t.connections.now 7 (rows t.connections.now) (raised_at t)
+  raised-told =
+      let d = decide.raised t.tasks.now t.connections.now in
+      record { says = says (rows t.connections.now) d; said = said (rows t.connections.now) d }

@@ -1,10 +1,11 @@
 -- Whether a refusal stands at a place, by tests of the words of a row: 3 of a task; 4, 5 and 7 of a connection.
-use Rattle.std.specs.Prelude.{◌≡◌, Bool, true, false, not, ◌&&◌, List, ℕ, ◌%◌, ◌<◌, Option, MatchOption, eqb, leb, ltb}
+use Rattle.std.specs.Prelude.{◌≡◌, Bool, true, false, not, ◌&&◌, ℕ, ◌%◌, ◌<◌, Option, MatchOption, eqb, leb, ltb}
 use Rattle.rules.specs.Sizes.{longest_period, least_critical}
-use Rattle.rules.specs.Tables.{count, rows, period, deadline, compute, criticality, flag, sender, receiver, kind}
+use Rattle.rules.specs.Tables.{count, rows, period, sender, receiver, kind}
 use Rattle.rules.specs.Rows.{task_row_at, connection_row_at}
 use Rattle.rules.specs.declared.TaskRow.{TaskRow}
 use Rattle.rules.specs.declared.ConnectionRow.{ConnectionRow}
+use Rattle.planner.specs.declared.places.Tables.{Tables}
 
 abbrev pub fit : TaskRow → Bool
 fit v =
@@ -24,35 +25,35 @@ abbrev pub raised : TaskRow → TaskRow → Bool
 raised from to = ltb to.criticality from.criticality && eqb from.flag 0
 
 -- row c stands in the table and joins two tasks that have periods
-pub record Joined (tw cw : List ℕ) (c : ℕ) : Type 0 where
-  pub row : c < rows cw
-  pub sender_task : sender cw c < count tw
-  pub receiver_task : receiver cw c < count tw
-  pub sender_period : 0 < period tw (sender cw c)
-  pub receiver_period : 0 < period tw (receiver cw c)
+pub record Joined (t : Tables) (c : ℕ) : Type 0 where
+  pub row : c < rows t.connections.now
+  pub sender_task : sender t.connections.now c < count t.tasks.now
+  pub receiver_task : receiver t.connections.now c < count t.tasks.now
+  pub sender_period : 0 < period t.tasks.now (sender t.connections.now c)
+  pub receiver_period : 0 < period t.tasks.now (receiver t.connections.now c)
 
-abbrev pub AllJoined : List ℕ → List ℕ → Type 0
-AllJoined tw cw = (c : ℕ) → c < rows cw → Joined tw cw c
+abbrev pub AllJoined : Tables → Type 0
+AllJoined t = (c : ℕ) → c < rows t.connections.now → Joined t c
 
 -- the tasks that row c names
-abbrev pub sender_of : List ℕ → List ℕ → ℕ → TaskRow
-sender_of tw cw c = task_row_at tw (sender cw c)
+abbrev pub sender_of : Tables → ℕ → TaskRow
+sender_of t c = task_row_at t.tasks.now (sender t.connections.now c)
 
-abbrev pub receiver_of : List ℕ → List ℕ → ℕ → TaskRow
-receiver_of tw cw c = task_row_at tw (receiver cw c)
+abbrev pub receiver_of : Tables → ℕ → TaskRow
+receiver_of t c = task_row_at t.tasks.now (receiver t.connections.now c)
 
 -- the tests of 3 at task i, and of 4, 5 and 7 at row c
-abbrev pub misfit_at : List ℕ → ℕ → Bool
-misfit_at tw i = not (fit (task_row_at tw i))
+abbrev pub misfit_at : Tables → ℕ → Bool
+misfit_at t i = not (fit (task_row_at t.tasks.now i))
 
-abbrev pub stray_at : List ℕ → List ℕ → ℕ → Bool
-stray_at tw cw c = not (joins (connection_row_at cw c) (count tw))
+abbrev pub stray_at : Tables → ℕ → Bool
+stray_at t c = not (joins (connection_row_at t.connections.now c) (count t.tasks.now))
 
-abbrev pub uneven_at : List ℕ → List ℕ → ℕ → Bool
-uneven_at tw cw c = eqb (kind cw c) 1 && uneven (sender_of tw cw c) (receiver_of tw cw c)
+abbrev pub uneven_at : Tables → ℕ → Bool
+uneven_at t c = eqb (kind t.connections.now c) 1 && uneven (sender_of t c) (receiver_of t c)
 
-abbrev pub raised_at : List ℕ → List ℕ → ℕ → Bool
-raised_at tw cw c = eqb (kind cw c) 1 && raised (sender_of tw cw c) (receiver_of tw cw c)
+abbrev pub raised_at : Tables → ℕ → Bool
+raised_at t c = eqb (kind t.connections.now c) 1 && raised (sender_of t c) (receiver_of t c)
 
 -- the first place below n where the test is true
 abbrev pub IsFirst : (ℕ → Bool) → ℕ → Option ℕ → Type 0

@@ -1,11 +1,10 @@
 // The planner: the order in which the tasks run, worked out from the two tables, or the first refusal that stands against them.
 #![tactic(auto)]
 
-ghost use Rattle.std.specs.Prelude.{◌≡◌, MatchResult};
+ghost use Rattle.std.specs.Prelude.{◌≡◌};
 ghost use Rattle.rules.specs.Plan.{PlanIs};
-ghost use Rattle.rules.proofs.Refusals.{NoneUnder};
 ghost use Rattle.planner.specs.Internal.{Workable};
-ghost use Rattle.planner.specs.Stages.{refused_plan, WorkedOut, Refused, Planned};
+ghost use Rattle.planner.specs.Stages.{refused_plan, Clear, Checked, WorkedOut, Worked};
 
 use places::Tables;
 use rules::{Plan, Refusal};
@@ -46,7 +45,7 @@ fn worked_out(tasks: &[u16], chains: &[[u8; 32]; 32], multiple: u32) -> Plan
 
 // Refusals 1 and 2, by the lengths.
 fn check_lengths(tables: Tables) -> Result<(), Refusal>
-    ensures { MatchResult result (λ _. NoneUnder tables.entry.tasks.now tables.entry.connections.now 3) (Refused tables.entry.tasks.now tables.entry.connections.now) }
+    ensures { Checked tables.entry 3 result }
 {
     let words = tables.tasks.len();
     if (words % 5 != 0) | (words == 0) | (160 < words) {
@@ -61,8 +60,8 @@ fn check_lengths(tables: Tables) -> Result<(), Refusal>
 
 // Refusals 3 and 4, by each task and row.
 fn check_values(tables: Tables) -> Result<(), Refusal>
-    requires { NoneUnder tables.tasks.now tables.connections.now 3 }
-    ensures { MatchResult result (λ _. NoneUnder tables.entry.tasks.now tables.entry.connections.now 5) (Refused tables.entry.tasks.now tables.entry.connections.now) }
+    requires { Clear tables 3 }
+    ensures { Checked tables.entry 5 result }
 {
     if let Some(task) = tables.first_misfit() {
         return Err(Refusal::TaskValue(task));
@@ -75,8 +74,8 @@ fn check_values(tables: Tables) -> Result<(), Refusal>
 
 // Refusals 5 to 8, and the plan where none stands.
 fn plan_chains(tables: Tables) -> Result<Plan, Refusal>
-    requires { NoneUnder tables.tasks.now tables.connections.now 5 }
-    ensures { MatchResult result (Planned tables.entry.tasks.now tables.entry.connections.now) (Refused tables.entry.tasks.now tables.entry.connections.now) }
+    requires { Clear tables 5 }
+    ensures { Worked tables.entry result }
 {
     let count = tables.count();
     if let Some(row) = tables.first_uneven() {
@@ -95,7 +94,7 @@ fn plan_chains(tables: Tables) -> Result<Plan, Refusal>
 
 // The plan, or the first refusal.
 fn planned(tables: Tables) -> Result<Plan, Refusal>
-    ensures { MatchResult result (Planned tables.entry.tasks.now tables.entry.connections.now) (Refused tables.entry.tasks.now tables.entry.connections.now) }
+    ensures { Worked tables.entry result }
 {
     check_lengths(tables)?;
     check_values(tables)?;

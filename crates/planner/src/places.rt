@@ -63,9 +63,9 @@ impl Tables<'_> {
 
     // The sender and the receiver of row c.
     fn ends(self, c: usize) -> (TaskRow, TaskRow)
-        requires { Joined self.tasks.now self.connections.now c }
-        ensures sender { result.0 ≡ sender_of self.entry.tasks.now self.entry.connections.now c }
-        ensures receiver { result.1 ≡ receiver_of self.entry.tasks.now self.entry.connections.now c }
+        requires { Joined self c }
+        ensures sender { result.0 ≡ sender_of self.entry c }
+        ensures receiver { result.1 ≡ receiver_of self.entry c }
     {
         let row = ConnectionRow::at(self.connections, c);
         (
@@ -76,16 +76,16 @@ impl Tables<'_> {
 
     // Whether row c is undelayed, with neither period dividing the other.
     fn is_uneven(self, c: usize) -> bool
-        requires { Joined self.tasks.now self.connections.now c }
-        ensures { result ≡ uneven_at self.entry.tasks.now self.entry.connections.now c }
+        requires { Joined self c }
+        ensures { result ≡ uneven_at self.entry c }
     {
         let (from, to) = self.ends(c);
         (ConnectionRow::at(self.connections, c).kind == 1) & uneven(from, to)
     }
 
     fn is_raised(self, c: usize) -> bool
-        requires { Joined self.tasks.now self.connections.now c }
-        ensures { result ≡ raised_at self.entry.tasks.now self.entry.connections.now c }
+        requires { Joined self c }
+        ensures { result ≡ raised_at self.entry c }
     {
         let (from, to) = self.ends(c);
         (ConnectionRow::at(self.connections, c).kind == 1) & raised(from, to)
@@ -93,14 +93,14 @@ impl Tables<'_> {
 
     // Where 3 stands: the first task with a value outside its size.
     pub(crate) fn first_misfit(self) -> Option<usize>
-        ensures { IsFirst (misfit_at self.entry.tasks.now) (count self.entry.tasks.now) result }
+        ensures { IsFirst (misfit_at self.entry) (count self.entry.tasks.now) result }
     {
         (0..self.count()).find(|i| !fit(TaskRow::at(self.tasks, *i)))
     }
 
     // Where 4 stands: the first row that joins no two tasks by a known kind.
     pub(crate) fn first_stray(self) -> Option<usize>
-        ensures { IsFirst (stray_at self.entry.tasks.now self.entry.connections.now) (rows self.entry.connections.now) result }
+        ensures { IsFirst (stray_at self.entry) (rows self.entry.connections.now) result }
     {
         let count = self.count();
         (0..self.rows()).find(|c| !joins(ConnectionRow::at(self.connections, *c), count))
@@ -108,16 +108,16 @@ impl Tables<'_> {
 
     // Where 5 stands: the first undelayed row with neither period dividing the other.
     pub(crate) fn first_uneven(self) -> Option<usize>
-        requires { AllJoined self.tasks.now self.connections.now }
-        ensures { IsFirst (uneven_at self.entry.tasks.now self.entry.connections.now) (rows self.entry.connections.now) result }
+        requires { AllJoined self }
+        ensures { IsFirst (uneven_at self.entry) (rows self.entry.connections.now) result }
     {
         (0..self.rows()).find(|c| self.is_uneven(*c))
     }
 
     // Where 7 stands: the first undelayed row from a less critical task, with its flag 0, to a more critical one.
     pub(crate) fn first_raised(self) -> Option<usize>
-        requires { AllJoined self.tasks.now self.connections.now }
-        ensures { IsFirst (raised_at self.entry.tasks.now self.entry.connections.now) (rows self.entry.connections.now) result }
+        requires { AllJoined self }
+        ensures { IsFirst (raised_at self.entry) (rows self.entry.connections.now) result }
     {
         (0..self.rows()).find(|c| self.is_raised(*c))
     }

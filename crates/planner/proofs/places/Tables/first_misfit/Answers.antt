@@ -6,5 +6,4 @@ use Rattle.planner.proofs.places.Tables.first_misfit.Goals as goal
 
 pub returns : goal.returns
 returns c =
-    first_found (misfit_at c.args.self.tasks.now) _ _ _ _ c.find.result c.count.ensures c.find.ensures.ran
-    (λ x b q k. search (rules, tests))
+    first_found (misfit_at c.args.self) _ _ _ _ c.find.result c.count.ensures c.find.ensures.ran (λ x b q k. search (rules, tests))

@@ -6,5 +6,4 @@ use Rattle.planner.proofs.places.Tables.first_raised.Goals as goal
 
 pub returns : goal.returns
 returns c =
-    first_found (raised_at c.args.self.tasks.now c.args.self.connections.now) _ _ _ _ c.find.result c.rows.ensures c.find.ensures.ran
-    (λ x b q k. search (rules, tests))
+    first_found (raised_at c.args.self) _ _ _ _ c.find.result c.rows.ensures c.find.ensures.ran (λ x b q k. search (rules, tests))
