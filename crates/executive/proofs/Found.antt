@@ -5,7 +5,7 @@ use Prim.Native.Nat.{ℕ, ◌≤◌, ◌<◌}
 use native.Mathlib.Omega.{arith}
 use lib.Dec.{ltb}
 use borrow.Author.Tests.{lt-ltb, le-ltb}
-use Rattle.std.specs.Prelude.{Option, Some, None}
+use Rattle.std.specs.Prelude.{Option, Some, None, MatchOption}
 use Rattle.std.proofs.lemmas.Option.{none-some}
 use Rattle.rules.specs.Counting.{first_of}
 use Rattle.rules.proofs.Counting.{first_of-found, first_of-none}
@@ -21,3 +21,10 @@ module _ (p : ℕ → Bool) (f : ℕ → ℕ) (n : ℕ) where
 pub found-none : (b : Bool) (x : ℕ) → found b x ≡ None → b ≡ false
 found-none true x e = absurd (none-some x (sym e))
 found-none false x e = refl
+
+-- what `find` finds is the first
+pub first-matched : (p : ℕ → Bool) (n : ℕ) (r : Option ℕ) →
+    MatchOption r ((k : ℕ) → 0 ≤ k → k < n → p k ≡ false) (λ i. (0 ≤ i) × (i < n) × (p i ≡ true) × ((k : ℕ) → 0 ≤ k → k < i → p k ≡ false)) →
+    r ≡ found (ltb (first_of p n) n) (first_of p n)
+first-matched p n None h = none-found p (λ (i : ℕ). i) n (λ k l. h k (omega arith) l)
+first-matched p n (Some i) h = first-found p (λ (i : ℕ). i) n i h.1 (λ k l. h.3 k (omega arith) l) h.2

@@ -60,48 +60,32 @@ fn rows_fit(state: &State) -> bool
     ok
 }
 
-fn all_seen(seen: &[bool; 32], count: usize) -> bool
-    requires { count ≤ 32 }
-    ensures { result ≡ all_below (marked seen.now) count }
-{
-    let mut ok = true;
-    for i in 0..count {
-        ok &= seen[i];
-    }
-    ok
-}
-
 // "an order that does not name each task once": each place names a task, and each task has a place.
 fn order_fits(state: &State) -> bool
     requires { state.now.count ≤ 32 }
     ensures { result ≡ order_fits state.now }
 {
-    let mut seen = [false; 32];
-    for k in 0..state.count {
-        let task = state.order[k] as usize;
+    let mut named = [false; 32];
+    for task in &state.order[..state.count] {
+        let task = *task as usize;
         if state.count <= task {
             return false;
         }
-        seen[task] = true;
+        named[task] = true;
     }
-    all_seen(&seen, state.count)
-}
-
-fn tasks_fit(state: &State) -> bool
-    requires { state.now.count ≤ 32 }
-    ensures { result ≡ tasks_fit state.now }
-{
-    times_fit(state) & dispatches_fit(state)
+    let mut all = true;
+    for one in &named[..state.count] {
+        all &= *one;
+    }
+    all
 }
 
 // The sizes first: with them the columns can be walked.
 fn in_range(state: &State) -> bool
     ensures { result ≡ in_range state.now }
 {
-    if !sizes_fit(state) {
-        return false;
-    }
-    tasks_fit(state) & rows_fit(state) & order_fits(state)
+    sizes_fit(state)
+        && (times_fit(state) & dispatches_fit(state) & rows_fit(state) & order_fits(state))
 }
 
 // "Tick and completion test 16, 15 .. in that order".

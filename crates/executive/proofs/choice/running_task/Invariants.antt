@@ -1,7 +1,7 @@
--- No place before `k` names a task that is not idle.
+-- No place before the task's names a task that is not idle.
 use Rattle.std.proofs.Common.{◌≡◌, ℕ, ◌<◌, false}
 use Rattle.rules.specs.Steps.{busy}
 use Rattle.executive.proofs.choice.running_task.Given as goal
 
-abbrev pub invariant-loop-k : goal.invariant-loop-k
-invariant-loop-k l = (j : ℕ) → j < l.k → busy l.state j ≡ false
+abbrev pub invariant-loop-task : goal.invariant-loop-task
+invariant-loop-task l = (j : ℕ) → j < l.task-index → busy l.state j ≡ false
