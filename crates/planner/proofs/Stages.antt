@@ -7,14 +7,13 @@ use Prim.Native.Nat.{ℕ, suc, ◌≤◌, ◌<◌}
 use native.Mathlib.Omega.{arith}
 use lib.ListN.{get_or, length}
 use borrow.Author.Tests.{ltb-true, lt-ltb}
-use Rattle.std.specs.Prelude.{Result}
 use Rattle.rules.specs.Sizes.{most_tasks, most_multiple}
 use Rattle.rules.specs.Tables.{count, rows, sender, receiver}
 use Rattle.rules.specs.Chains.{Link, Acyclic}
 use Rattle.rules.specs.Counting.{column}
 use Rattle.rules.specs.Order.{Common, IsDeadline, IsCriticality}
 use Rattle.rules.specs.Refusals.{Refusal, Sound}
-use Rattle.rules.specs.Plan.{ZeroFrom, Accepts, Judges, PlanIs}
+use Rattle.rules.specs.Plan.{ZeroFrom, Accepts, PlanIs}
 use Rattle.rules.specs.declared.Plan.{Plan}
 use Rattle.rules.specs.declared.Refusal as code
 use Rattle.rules.specs.declared.Refusal.TheVariants as refusal
@@ -203,10 +202,7 @@ module _ (t : lent.Tables) where
             pub plan_accepted : (c : ℕ) → MultipleAt tw c → (r : Plan) → WorkedOut tw sq c r → Planned t r
             plan_accepted c m r w = record { accepted = w.accepted; accepts = accepts tw cw (multiple_passed tw cw eight c m) sq square c m r w }
 
-  -- what is answered in the end: a plan, or zeros throughout with the refusal
-  pub plan_is : (r : Plan) → Planned t r → PlanIs tw cw r
-  plan_is r w = subst (λ (v : Result (Unit {0}) code.Refusal). Judges tw cw v r) (sym w.accepted) w.accepts
-
+  -- zeros throughout, with the refusal
   pub plan_refused : (f : code.Refusal) (r : Plan) → Refused t f → r ≡ refused_plan f → PlanIs tw cw r
   plan_refused f r because e =
       subst (PlanIs tw cw) (sym e)
