@@ -16,7 +16,7 @@ fn step(connections: &[u16], marks: &[bool; 32]) -> [bool; 32]
     let mut next = [false; 32];
     for c in 0..connections.len() / 3 {
         let row = ConnectionRow::at(connections, c);
-        if (row.kind == 1) & marks[row.sender as usize] {
+        if row.kind == 1 && marks[row.sender as usize] {
             next[row.receiver as usize] = true;
         }
     }
