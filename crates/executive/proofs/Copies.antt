@@ -4,9 +4,9 @@ use mathlib.Core.Bool.{Bool, true, false, not, cond, ◌&&◌}
 use mathlib.Core.List.{List}
 use mathlib.Core.Logic.{◌⊎◌, ⊎_elim}
 use Prim.Native.Nat.{ℕ, ◌+◌, ◌<◌}
-use lib.ListN.{get_or, set}
+use lib.ListN.{set}
 use Rattle.rules.specs.Counting.{map_below}
-use Rattle.rules.specs.Views.{task_in, sender, receiver, undelayed, set_tasks, set_dispatches, set_buffers, set_inputs}
+use Rattle.rules.specs.Views.{task_in, sender, receiver, undelayed, set_tasks, set_dispatches, set_buffers}
 use Rattle.rules.specs.Steps.{falls, delivers, delivered, released, samples, wakes, records, dispatched}
 use Rattle.rules.specs.declared.Phase.TheVariants as phase
 use Rattle.rules.specs.declared.Task.{Task}

@@ -1,5 +1,5 @@
 -- A task is seen exactly when some place names it, which is when it has a first place.
-use Rattle.std.proofs.Common.{◌≡◌, refl, ap, sym, ◌∙◌, ◌<◌, ℕ, Bool, true, List, arith, rules, le-ltb, lt-ltb}
+use Rattle.std.proofs.Common.{◌≡◌, refl, sym, ◌∙◌, ◌<◌, Bool, true, List, arith, rules, le-ltb, lt-ltb}
 use Rattle.std.proofs.lemmas.List.{get_or-take, length-take, length-set}
 use Rattle.rules.specs.Counting.{all_below}
 use Rattle.rules.specs.Range.{place_fits, names, has_place, order_fits}
