@@ -9,8 +9,8 @@ use lib.Dec.{eqb}
 use Rattle.rules.specs.declared.State.{State}
 use Rattle.rules.specs.declared.Step.{Step}
 use Rattle.rules.specs.declared.Plan.{Plan}
-use Rattle.rules.specs.declared.Verdict.{Verdict}
-use Rattle.rules.specs.declared.Verdict.TheVariants as verdict
+use Rattle.std.specs.Prelude.{Result, Ok, Err}
+use Rattle.rules.specs.declared.Refusal.{Refusal}
 use Rattle.rules.specs.declared.Answer.TheVariants as answer
 use Rattle.rules.specs.Sizes.{most_rows}
 use Rattle.rules.specs.Tables.{rows, kind}
@@ -67,11 +67,11 @@ planned-demand s pl = record {
 }
 
 -- the state of an accepted start, by the verdict
-verdict_fresh : (tw cw : List ℕ) (p : Plan) (r : Step) (v : Verdict) → Judges tw cw v p → StepIs (start_of tw cw p v) r → v ≡ verdict.Accepted →
+verdict_fresh : (tw cw : List ℕ) (p : Plan) (r : Step) (v : Result (Unit {0}) Refusal) → Judges tw cw v p → StepIs (start_of tw cw p v) r → v ≡ Ok tt →
     Accepts tw cw p × (r.state ≡ fresh_state tw cw p)
 unfolding start_of
-verdict_fresh tw cw p r verdict.Accepted j h e = (j, h.state)
-verdict_fresh tw cw p r (verdict.Refused k q) j h e = absurd (let z : ◌≡◌ {A = ℕ} 0 1 = cc in omega arith)
+verdict_fresh tw cw p r (Ok x) j h e = (j, h.state)
+verdict_fresh tw cw p r (Err f) j h e = absurd (let z : ◌≡◌ {A = ℕ} 0 1 = cc in omega arith)
 
 module _ (tw cw : List ℕ) (r : Step) (s : AcceptedStart tw cw r) where
   abbrev p : Plan
@@ -97,10 +97,10 @@ module _ (tw cw : List ℕ) (r : Step) (s : AcceptedStart tw cw r) where
       (λ cs h. sym (runs_as_ruled f g ticks completes cs (start r.state) start-held h)) demand
 
 -- a fresh start that answers Idle is an accepted one
-idle-verdict : (tw cw : List ℕ) (p : Plan) (r : Step) (v : Verdict) → StepIs (start_of tw cw p v) r → r.answer ≡ answer.Idle → v ≡ verdict.Accepted
+idle-verdict : (tw cw : List ℕ) (p : Plan) (r : Step) (v : Result (Unit {0}) Refusal) → StepIs (start_of tw cw p v) r → r.answer ≡ answer.Idle → v ≡ Ok tt
 unfolding start_of
-idle-verdict tw cw p r verdict.Accepted h e = refl
-idle-verdict tw cw p r (verdict.Refused k q) h e =
+idle-verdict tw cw p r (Ok x) h e = refl
+idle-verdict tw cw p r (Err f) h e =
     let z : ◌≡◌ {A = ℕ} 2 0 = ap (λ (t : Told). t.kind) (sym (ap answer_says e) ∙ h.answer) in
     absurd (omega arith)
 

@@ -7,19 +7,19 @@ use Prim.Native.Nat.{ℕ, ◌*◌, ◌^◌}
 use native.Mathlib.Omega.{arith}
 use lib.ListN.{length, get_or, replicate}
 use Rattle.rules.specs.declared.Plan.{Plan}
-use Rattle.rules.specs.declared.Verdict.TheVariants as verdict
+use Rattle.std.specs.Prelude.{Result, Ok, Err}
+use Rattle.rules.specs.declared.Refusal.{Refusal}
 use Rattle.rules.specs.declared.State.{State}
 use Rattle.rules.specs.declared.Answer.{Answer}
 use Rattle.rules.specs.declared.Answer.TheVariants as answer
-use Rattle.rules.specs.declared.Reading.TheVariants as reading
 use Rattle.rules.specs.Sizes.{most_task_words, most_row_words}
-use Rattle.rules.specs.File.{records, onward, item_at, marked, reading_of, read_of}
+use Rattle.rules.specs.File.{Reading, records, onward, item_at, marked, reading_of, read_of}
 use Rattle.rules.specs.Views.{buffer, output}
 use Rattle.rules.specs.Range.{in_range}
 use Rattle.rules.specs.Steps.{delivered, dispatched, started_at, chosen, advanced, ticking, ended_at, completing}
 use Rattle.rules.specs.Calls.{judged, tick_of, complete_of}
 use Rattle.rules.specs.Fresh.{fresh_state}
-use Rattle.rules.specs.Answers.{Told, told, answer_says, reading_says}
+use Rattle.rules.specs.Answers.{Told, told, answer_says, reading_says, read_says}
 use Rattle.rules.specs.Runs.{Call, Call.tick, Call.complete, start, after}
 use Rattle.rules.proofs.Plans.{plan_one}
 use Rattle.rules.proofs.Deciding.{Decision, both, all, lt, first, others}
@@ -68,7 +68,7 @@ module _ (f : Planner) (meets : MeetsPlan f) where
   pub no_planner_refuses_all : RefusesAllTables f → ⊥
   no_planner_refuses_all refuses =
       let r = refuses tasks_m2 (delayed 0 1) lent_m2 in
-      let v : verdict.Accepted ≡ verdict.Refused r.0 r.1 = ap (λ (p : Plan). p.verdict) (sym plans_M2) ∙ r.2 in
+      let v : ◌≡◌ {A = Result (Unit {0}) Refusal} (Ok tt) (Err r.0) = ap (λ (p : Plan). p.verdict) (sym plans_M2) ∙ r.1 in
       let z : ◌≡◌ {A = ℕ} 0 1 = cc in
       omega arith
 
@@ -88,7 +88,7 @@ module _ (f : Planner) (meets : MeetsPlan f) where
 abbrev end_alone : List ℕ
 end_alone = 0x45 ∷ 0x4E ∷ []
 
-end_alone_read : read_of end_alone most_task_words most_row_words ≡ reading.Read 0 0
+end_alone_read : read_of end_alone most_task_words most_row_words ≡ Reading.Read 0 0
 unfolding read_of reading_of records onward item_at marked
 end_alone_read = refl
 
@@ -100,7 +100,7 @@ no_reader_refuses_all f meets refuses =
     let tables : LentTables ts cs = ((slice_of 16 (replicate most_task_words 0)).if_true refl, (slice_of 16 (replicate most_row_words 0)).if_true refl) in
     let r = refuses end_alone ts cs lent tables in
     let e = (meets end_alone ts cs lent tables).told ∙ ap reading_says end_alone_read in
-    let z : ◌≡◌ {A = ℕ} 0 5 = ap (λ (t : Told). t.kind) (sym (ap reading_says r.2) ∙ e) in
+    let z : ◌≡◌ {A = ℕ} 0 5 = ap (λ (t : Told). t.kind) (sym (ap read_says r.1) ∙ e) in
     omega arith
 
 -- ---------------------------------------------------------------------------------------------------------------------------

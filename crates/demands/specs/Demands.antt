@@ -3,8 +3,7 @@
 use Rattle.std.specs.Prelude.{◌≡◌, true, false, cond, List, ℕ, ◌+◌, ◌*◌, ◌≤◌, ◌<◌, get_or, length, take, eqb}
 use Rattle.rules.specs.declared.State.{State}
 use Rattle.rules.specs.declared.Step.{Step}
-use Rattle.rules.specs.declared.Verdict.TheVariants as verdict
-use Rattle.rules.specs.declared.Reading.TheVariants as reading
+use Rattle.std.specs.Prelude.{Ok}
 use Rattle.rules.specs.declared.Answer.TheVariants as answer
 use Rattle.rules.specs.Sizes.{task_width, row_width}
 use Rattle.rules.specs.Tables as table
@@ -18,7 +17,7 @@ use Rattle.reader.specs.Read.{ReadIs}
 -- "an accepted fresh start": r answers fresh start's call on the two tables, and the planner's verdict on them is that they are accepted
 pub record AcceptedStart (tw cw : List ℕ) (r : Step) : Type 0 where
   pub fresh : FreshIs tw cw r
-  pub accepted : fresh.plan.verdict ≡ verdict.Accepted
+  pub accepted : fresh.plan.verdict ≡ Ok tt
 
 -- a machine file was read and started: `read`, lent two tables, answers that it read t tasks and c connections, and fresh start, called on so
 -- much of both tables, answers Idle
@@ -29,7 +28,7 @@ pub record FileStart (file : List ℕ) (r : Step) : Type 0 where
   pub left_rows : List ℕ
   pub t : ℕ
   pub c : ℕ
-  pub read : ReadIs file lent_tasks lent_rows (reading.Read t c) left_tasks left_rows
+  pub read : ReadIs file lent_tasks lent_rows (Ok (record { tasks = t; connections = c })) left_tasks left_rows
   pub fresh : FreshIs (take (t * task_width) left_tasks) (take (c * row_width) left_rows) r
   pub idle : r.answer ≡ answer.Idle
 

@@ -3,7 +3,9 @@
 use Rattle.std.specs.Prelude.{◌≡◌, List, ℕ, ◌*◌, ◌^◌, ◌<◌, length, get_or}
 use Rattle.rules.specs.Sizes.{most_tasks, most_rows}
 use Rattle.rules.specs.declared.Plan.{Plan}
-use Rattle.rules.specs.declared.Reading.{Reading}
+use Rattle.std.specs.Prelude.{Result}
+use Rattle.rules.specs.declared.Counts.{Counts}
+use Rattle.rules.specs.declared.Refusal.{Refusal}
 use Rattle.rules.specs.declared.State.{State}
 use Rattle.rules.specs.declared.Step.{Step}
 use Rattle.rules.specs.Plan.{PlanIs}
@@ -66,7 +68,7 @@ MeetsPlan f = (tw cw : List ℕ) → LentTables tw cw → PlanIs tw cw (f tw cw)
 
 -- `reader::read`, which leaves an answer and the two tables
 pub record Left : Type 0 where
-  pub reading : Reading
+  pub reading : Result Counts Refusal
   pub tasks : List ℕ
   pub connections : List ℕ
 

@@ -1,8 +1,8 @@
 -- 01, "What the proofs have to settle": "These must be shut out". Each kind of wrong program is a property of a program, at what a program
 -- can be given; what a program's contract promises is `Meets..` of Programs.
 use Rattle.std.specs.Prelude.{◌≡◌, true, List, ℕ}
-use Rattle.rules.specs.declared.Verdict.TheVariants as verdict
-use Rattle.rules.specs.declared.Reading.TheVariants as reading
+use Rattle.std.specs.Prelude.{Ok, Err}
+use Rattle.rules.specs.declared.Refusal.{Refusal}
 use Rattle.rules.specs.declared.State.{State}
 use Rattle.rules.specs.declared.Step.{Step}
 use Rattle.rules.specs.declared.Answer.{Answer}
@@ -14,16 +14,16 @@ use Rattle.demands.specs.Programs.{Slice, LentTables, Held, Planner, Reader, Tic
 
 -- "a planner .. that refuses all"
 abbrev pub RefusesAllTables : Planner → Type 0
-RefusesAllTables f = (tw cw : List ℕ) → LentTables tw cw → (k : ℕ) × (p : ℕ) × ((f tw cw).verdict ≡ verdict.Refused k p)
+RefusesAllTables f = (tw cw : List ℕ) → LentTables tw cw → (refusal : Refusal) × ((f tw cw).verdict ≡ Err refusal)
 
 -- "or one fixed order for every table": for every table of so many tasks, as table position is
 abbrev pub FixesOrder : Planner → Type 0
-FixesOrder f = (order : ℕ → List ℕ) × ((tw cw : List ℕ) → LentTables tw cw → (f tw cw).verdict ≡ verdict.Accepted → (f tw cw).order ≡ order (count tw))
+FixesOrder f = (order : ℕ → List ℕ) × ((tw cw : List ℕ) → LentTables tw cw → (f tw cw).verdict ≡ Ok tt → (f tw cw).order ≡ order (count tw))
 
 -- "a .. reader that refuses all"
 abbrev pub RefusesAllFiles : Reader → Type 0
 RefusesAllFiles f = (file ts cs : List ℕ) → Slice 8 file → LentTables ts cs →
-    (k : ℕ) × (p : ℕ) × ((f file ts cs).reading ≡ reading.Refused k p)
+    (refusal : Refusal) × ((f file ts cs).reading ≡ Err refusal)
 
 -- "an executive that answers Idle or Missed always": it never names a task that runs, though it may refuse where it must
 abbrev pub NamesNone : Answer → Type 0

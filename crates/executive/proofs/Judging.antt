@@ -1,47 +1,65 @@
--- The tests 16 and 15 before a call is carried out: by the number k of the one that stands.
+-- The tests 16 and 15 before a call is carried out: what follows where one stands, and where neither does.
 use mathlib.Core.Path.{◌≡◌, refl, ap, sym, ◌∙◌}
-use mathlib.Core.Bool.{Bool, true, false, ◌&&◌}
-use Prim.Native.Nat.{ℕ, ◌≤◌, ◌<◌}
+use mathlib.Core.Bool.{Bool, true, false, cond}
 use native.Mathlib.Omega.{arith}
+use Rattle.std.specs.Prelude.{Result, Ok, Err}
 use Rattle.rules.specs.Steps.{step}
 use Rattle.rules.specs.Range.{in_range}
 use Rattle.rules.specs.Calls.{judged}
 use Rattle.rules.specs.declared.State.{State}
 use Rattle.rules.specs.declared.Step.{Step}
 use Rattle.rules.specs.declared.Answer.TheVariants as answer
+use Rattle.rules.specs.declared.Refusal.{Refusal}
+use Rattle.rules.specs.declared.Refusal.TheVariants.{Halted, OutOfRange}
+use Rattle.rules.proofs.Tests.{true_false}
 use Rattle.rules.proofs.Calls.{judged-out, judged-halted, judged-on}
-use Rattle.rules.proofs.Range.{in_range-parts}
-use Rattle.executive.specs.Range.{sizes_in, tables_in, refusal_of}
+use Rattle.rules.proofs.Range.{Ranged, in_range-ranged}
+use Rattle.executive.specs.Fits.{Fits}
+use Rattle.executive.specs.Found.{accepts}
 
-stands : (ranged halted : Bool) (s : State) (carried : Step) (k : ℕ) → k ≡ refusal_of ranged halted → 0 < k →
-    step (answer.Refused k 0) s ≡ judged ranged halted s carried
-stands true true s carried k e h = ap (λ (n : ℕ). step (answer.Refused n 0) s) e ∙ sym (judged-halted true true s carried refl refl)
-stands true false s carried k e h = absurd (omega arith)
-stands false halted s carried k e h = ap (λ (n : ℕ). step (answer.Refused n 0) s) e ∙ sym (judged-out false halted s carried refl)
+-- `accepts` by its two tests
+abbrev tested : Bool → Bool → Result (Unit {0}) Refusal
+tested ranged halted = cond ranged (cond halted (Err Halted) (Ok tt)) (Err OutOfRange)
 
-none : (ranged halted : Bool) (k : ℕ) → k ≡ refusal_of ranged halted → k ≤ 0 → (ranged ≡ true) × (halted ≡ false)
-none true true k e h = absurd (omega arith)
-none true false k e h = (refl, refl)
-none false halted k e h = absurd (omega arith)
+abbrev refusal_in : Result (Unit {0}) Refusal → Refusal
+refusal_in (Ok _) = OutOfRange
+refusal_in (Err r) = r
 
--- the number that is told of the columns is the state's
-pub number_of : (s : State) (k : ℕ) →
-    k ≡ refusal_of
-    (sizes_in s.count s.rows s.multiple s.cycle
-    && tables_in s.periods s.deadlines s.computes s.dispatches s.senders s.receivers s.order s.count s.rows s.multiple)
-    s.halted → k ≡ refusal_of (in_range s) s.halted
-number_of s k e = e ∙ ap (λ (b : Bool). refusal_of b s.halted) (sym (in_range-parts s))
+abbrev is_accepted : Result (Unit {0}) Refusal → Bool
+is_accepted (Ok _) = true
+is_accepted (Err _) = false
 
-module _ (s : State) (k : ℕ) (e : k ≡ refusal_of (in_range s) s.halted) where
-  pub in_range_by : k ≤ 0 → in_range s ≡ true
-  in_range_by h = (none (in_range s) s.halted k e h).0
+stands : (ranged halted : Bool) (s : State) (carried : Step) (r : Refusal) → tested ranged halted ≡ Err r →
+    step (answer.Refused r) s ≡ judged ranged halted s carried
+stands true true s carried r e = ap (λ (f : Refusal). step (answer.Refused f) s) (sym (ap refusal_in e)) ∙ sym (judged-halted true true s carried refl refl)
+stands true false s carried r e = absurd (true_false (ap is_accepted e))
+stands false halted s carried r e = ap (λ (f : Refusal). step (answer.Refused f) s) (sym (ap refusal_in e)) ∙ sym (judged-out false halted s carried refl)
 
-  pub not_halted_by : k ≤ 0 → s.halted ≡ false
-  not_halted_by h = (none (in_range s) s.halted k e h).1
+none : (ranged halted : Bool) → is_accepted (tested ranged halted) ≡ true → (ranged ≡ true) × (halted ≡ false)
+none true true e = absurd (true_false (sym e))
+none true false e = (refl, refl)
+none false halted e = absurd (true_false (sym e))
 
-  module _ (carried : Step) where
-    pub refused-by : 0 < k → step (answer.Refused k 0) s ≡ judged (in_range s) s.halted s carried
-    refused-by h = stands (in_range s) s.halted s carried k e h
+pub refused-by : (s : State) (r : Refusal) (carried : Step) → accepts s ≡ Err r → step (answer.Refused r) s ≡ judged (in_range s) s.halted s carried
+refused-by s r carried e = stands (in_range s) s.halted s carried r e
 
-    pub carried_out : k ≤ 0 → carried ≡ judged (in_range s) s.halted s carried
-    carried_out h = let w = none (in_range s) s.halted k e h in sym (judged-on (in_range s) s.halted s carried w.0 w.1)
+module _ (s : State) (u : Unit {0}) (e : accepts s ≡ Ok u) where
+  pub in_range_by : in_range s ≡ true
+  in_range_by = (none (in_range s) s.halted (ap is_accepted e)).0
+
+  pub carried_out : (carried : Step) → carried ≡ judged (in_range s) s.halted s carried
+  carried_out carried = sym (judged-on (in_range s) s.halted s carried in_range_by (none (in_range s) s.halted (ap is_accepted e)).1)
+
+  -- and then each step has what it asks for
+  pub fits_by : Fits s
+  fits_by =
+      let r = in_range-ranged s in_range_by in
+      record {
+        few = r.sizes.few;
+        few_rows = r.sizes.few_rows;
+        low = λ i h. let t = r.times i h in omega arith;
+        within = λ i h. (r.times i h).deadline_high;
+        sends = λ c h. (r.joins c h).sender_task;
+        receives = λ c h. (r.joins c h).receiver_task;
+        names = r.names_task;
+      }

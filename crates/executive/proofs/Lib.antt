@@ -2,6 +2,10 @@
 pub mod Marks
 pub mod Columns
 pub mod Remainders
-pub mod Judging
+pub mod Kept
 pub mod Copies
+pub mod Phases
+pub mod Found
 pub mod Choices
+pub mod Judging
+pub mod Filled

@@ -12,19 +12,21 @@ use lib.Seq.{get_or-set_same, get_or-set_other}
 use lib.Dec.{eqb, ltb}
 use borrow.Author.Tests.{eqb-true, eqb-false, lt-ltb, le-ltb}
 use Rattle.rules.specs.Counting.{first_of, map_below}
-use Rattle.rules.proofs.Tests.{by_test, true_false, lt_or}
+use Rattle.rules.proofs.Tests.{by_test, true_false, lt_or, eq_or}
 use Rattle.rules.proofs.Counting.{first_of-hit, first_of-before, map_below-at}
-use Rattle.executive.specs.Marks.{any_below, marked, puts}
-use Rattle.executive.specs.Range.{names_in}
+use Rattle.executive.specs.Marks.{any_below, marked}
+use Rattle.rules.specs.Range.{names}
+use Rattle.rules.specs.Views.{ordered}
+use Rattle.rules.specs.declared.State.{State}
 
 -- ---------------------------------------------------------------------------------------------------------------------------
 -- anyBelow
 
-pub or_left : (a b : Bool) → a || b ≡ false → a ≡ false
+or_left : (a b : Bool) → a || b ≡ false → a ≡ false
 or_left false b e = refl
 or_left true b e = e
 
-pub or_right : (a b : Bool) → a || b ≡ false → b ≡ false
+or_right : (a b : Bool) → a || b ≡ false → b ≡ false
 or_right false b e = e
 or_right true b e = let z : true ≡ false = e in cc
 
@@ -36,14 +38,8 @@ or_false : (a b : Bool) → b ≡ false → a || b ≡ a
 or_false false b e = e
 or_false true b e = refl
 
-pub or_same : (a b p q : Bool) → a ≡ p → b ≡ q → a || b ≡ p || q
-or_same a b p q e f = cc
-
 pub any_below-turn : (p : ℕ → Bool) (i : ℕ) (any : Bool) → any ≡ any_below p i → any || p i ≡ any_below p (i + 1)
 any_below-turn p i any e = rw (add-one, e) refl
-
-pub any_below-end : (p : ℕ → Bool) (n i : ℕ) (any : Bool) → i ≤ n → n ≤ i → any ≡ any_below p i → any ≡ any_below p n
-any_below-end p n i any a z e = let q : i ≡ n = omega arith in rw q at e
 
 -- where none is found there is none
 pub any_below-none : (p : ℕ → Bool) (n i : ℕ) → any_below p n ≡ false → i < n → p i ≡ false
@@ -60,10 +56,6 @@ pub any_below-false : (p : ℕ → Bool) (n : ℕ) → ((i : ℕ) → i < n → 
 any_below-false p zero h = refl
 any_below-false p (suc n) h = rw (h n (omega arith), any_below-false p n (λ i l. h i (omega arith)))
 
-pub any_below-same : (p q : ℕ → Bool) (n : ℕ) → ((i : ℕ) → i < n → p i ≡ q i) → any_below p n ≡ any_below q n
-any_below-same p q zero h = refl
-any_below-same p q (suc n) h = rw (h n (omega arith), any_below-same p q n (λ i l. h i (omega arith)))
-
 -- a first place, or none
 pub first_of-any : (p : ℕ → Bool) (n : ℕ) → ltb (first_of p n) n ≡ any_below p n
 first_of-any p n =
@@ -78,31 +70,30 @@ abbrev pub MarkedBy : (ℕ → Bool) → List Bool → Type 0
 MarkedBy p marks = (i : ℕ) → marked marks i ≡ p i
 
 -- whether one of the first k places names i
-abbrev pub named_in : List ℕ → ℕ → ℕ → Bool
-named_in order k i = any_below (names_in order i) k
+abbrev pub named_in : State → ℕ → ℕ → Bool
+named_in s k i = any_below (names s i) k
 
-pub named_none : (order : List ℕ) (n : ℕ) → MarkedBy (named_in order 0) (replicate n false)
-named_none order zero i = refl
-named_none order (suc n) zero = refl
-named_none order (suc n) (suc i) = named_none order n i
+pub named_none : (s : State) (n : ℕ) → MarkedBy (named_in s 0) (replicate n false)
+named_none s zero i = refl
+named_none s (suc n) zero = refl
+named_none s (suc n) (suc i) = named_none s n i
 
-pub named_turn : (order : List ℕ) (k : ℕ) (seen : List Bool) → get_or order k 0 < length seen → MarkedBy (named_in order k) seen →
-    MarkedBy (named_in order (k + 1)) (set seen (get_or order k 0) true)
-named_turn order k seen h e i =
+pub named_turn : (s : State) (k : ℕ) (seen : List Bool) → ordered s k < length seen → MarkedBy (named_in s k) seen →
+    MarkedBy (named_in s (k + 1)) (set seen (ordered s k) true)
+named_turn s k seen h e i =
     rw add-one
-    (by_test (eqb (get_or order k 0) i)
+    (by_test (eqb (ordered s k) i)
     (λ q.
-    ap (marked (set seen (get_or order k 0) true)) (sym (eqb-true (get_or order k 0) i q))
-    ∙ (get_or-set_same seen (get_or order k 0) true false h ∙ sym (or_true (named_in order k i) _ q)))
-    (λ q. get_or-set_other seen (get_or order k 0) i true false (λ z. eqb-false _ _ q (sym z)) ∙ (e i ∙ sym (or_false (named_in order k i) _ q))))
+    ap (marked (set seen (ordered s k) true)) (sym (eqb-true (ordered s k) i q))
+    ∙ (get_or-set_same seen (ordered s k) true false h ∙ sym (or_true (named_in s k i) _ q)))
+    (λ q. get_or-set_other seen (ordered s k) i true false (λ z. eqb-false _ _ q (sym z)) ∙ (e i ∙ sym (or_false (named_in s k i) _ q))))
 
 -- ---------------------------------------------------------------------------------------------------------------------------
--- The marks that a loop puts.
+-- The marks that a loop puts: one turn.
 
--- each of the first n places has the mark that p gives it
-abbrev pub Tells : List Bool → (ℕ → Bool) → ℕ → Type 0
-Tells marks p n = (i : ℕ) → i < n → marked marks i ≡ p i
-
-pub puts-tells : (p : ℕ → Bool) (n : ℕ) (blank marks : List Bool) → n ≤ length blank → marks ≡ map_below (puts p) n blank → Tells marks p n
-puts-tells p n blank marks l e i h =
-    ap (λ (m : List Bool). marked m i) e ∙ map_below-at (puts p) n blank i false h (omega arith)
+pub marked-turn : (p : ℕ → Bool) (i : ℕ) (marks : List Bool) (v : Bool) → i < length marks → ((k : ℕ) → k < i → marked marks k ≡ p k) → v ≡ p i →
+    (k : ℕ) → k < i + 1 → marked (set marks i v) k ≡ p k
+marked-turn p i marks v l b e k h =
+    ⊎_elim
+    (λ q. rw q (get_or-set_same marks i v false l ∙ e))
+    (λ q. get_or-set_other marks i k v false q ∙ b k (omega arith)) (eq_or k i)

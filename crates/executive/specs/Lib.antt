@@ -1,6 +1,5 @@
--- The rules of the crate rules on the columns that one function is lent, and the words that this is written in: Marks.
+-- The words that the contracts of the steps are written in beside the rules' own: what a state fits, whose deadlines fall, and what is found.
 pub mod Marks
-pub mod Range
-pub mod Columns
-pub mod Lent
+pub mod Fits
+pub mod Found
 pub mod Start

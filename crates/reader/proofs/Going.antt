@@ -8,8 +8,9 @@ use native.Mathlib.Omega.{arith}
 use lib.ListN.{length, drop}
 use Rattle.rules.specs.Sizes.{most_tasks, most_rows}
 use Rattle.rules.specs.File.{Item, item_at, contents_of, reading_of, task_words, connection_words}
-use Rattle.rules.specs.Answers.{reading_says}
-use Rattle.rules.specs.declared.Reading.TheVariants as reading
+use Rattle.rules.specs.Answers.{number_of, place_of, reading_says}
+use Rattle.std.specs.Prelude.{Ok, Err}
+use Rattle.rules.specs.declared.Refusal.{Refusal}
 use Rattle.rules.proofs.Parts.{sets_then}
 use Rattle.rules.proofs.File.{Sound, left, left_task, left_connection, left_end, left_refusal, sound_here}
 use Rattle.reader.specs.Read.{stored, PassIs}
@@ -75,7 +76,7 @@ module _ {store : Bool} {file tasks₀ connections₀ tasks connections : List �
         row_table = rw (place, e) (stored-then store connections (c * 3) ws (connection_words (left file (at + 5) t (c + 1))) ∙ (rw l at g.row_table));
       }
 
-  pub pass_end : here ≡ Item.end → PassIs store file tasks₀ connections₀ (reading.Read t c) tasks connections
+  pub pass_end : here ≡ Item.end → PassIs store file tasks₀ connections₀ (Ok (record { tasks = t; connections = c })) tasks connections
   unfolding reading_of task_words connection_words
   pass_end h =
       let l = left_end file at t c g.few_tasks g.few_rows h in
@@ -85,10 +86,10 @@ module _ {store : Bool} {file tasks₀ connections₀ tasks connections : List �
         row_table = sym (stored-none store connections (c * 3)) ∙ (rw l at g.row_table);
       }
 
-  pub pass_refusal : (n p : ℕ) → here ≡ Item.refusal n p → PassIs store file tasks₀ connections₀ (reading.Refused n p) tasks connections
+  pub pass_refusal : (f : Refusal) → here ≡ Item.refusal (number_of f) (place_of f) → PassIs store file tasks₀ connections₀ (Err f) tasks connections
   unfolding reading_of task_words connection_words
-  pass_refusal n p h =
-      let l = left_refusal file at t c g.few_tasks g.few_rows n p h in
+  pass_refusal f h =
+      let l = left_refusal file at t c g.few_tasks g.few_rows (number_of f) (place_of f) h in
       record {
         told = ap reading_says (rw l at g.answer);
         task_table = sym (stored-none store tasks (t * 5)) ∙ (rw l at g.task_table);

@@ -1,3 +1,4 @@
--- What the reader promises (Read), and how its rows stand for the words of 01's tables (Rows).
-pub mod Rows
+-- What the reader promises (Read; of a file's own tables Tables), and how its items stand for those of the machine file (Items).
+pub mod Items
 pub mod Read
+pub mod Tables

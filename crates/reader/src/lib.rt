@@ -4,49 +4,36 @@
 
 ghost use Rattle.std.specs.Prelude.{◌≡◌, ◌+◌, ◌*◌, ◌≤◌, ◌<◌, length, drop};
 ghost use Rattle.rules.specs.File.{task_row, connection_row, marked, item_at};
-ghost use Rattle.reader.specs.Rows.{task_words_of, connection_words_of, item_is};
+ghost use Rattle.rules.specs.Rows.{task_words_of, connection_words_of};
+ghost use Rattle.reader.specs.Items.{item_is};
 ghost use Rattle.reader.specs.Read.{stored, PassIs, ReadIs};
 
-use rules::Reading;
+use rules::{ConnectionRow, Counts, Refusal, TaskRow};
 
-// The five words of a task.
-#[derive(Clone, Copy)]
-struct TaskRow {
-    period: u16,
-    deadline: u16,
-    compute: u16,
-    criticality: u16,
-    flag: u16,
-}
+mod tables;
 
-// The three words of a connection.
-#[derive(Clone, Copy)]
-struct ConnectionRow {
-    sender: u16,
-    receiver: u16,
-    kind: u16,
-}
+pub use tables::Tables;
 
-// What stands at one place of the file: a record, its end, or a refusal's number and place.
-#[derive(Clone, Copy)]
+// What stands at one place of the file: a record, or the file's end.
+#[derive(Clone, Copy, Debug, PartialEq, Eq)]
 enum Item {
     Task(TaskRow),
     Connection(ConnectionRow),
     End,
-    Refused(usize, usize),
+}
+
+// A place in the file: the byte, and what was read before it.
+#[derive(Clone, Copy, Debug, PartialEq, Eq)]
+struct Place {
+    byte: usize,
+    read: Counts,
 }
 
 // Two bytes as a number.
 fn word(low: u8, high: u8) -> u16
     ensures { result ≡ low + high * 256 }
 {
-    (low as u16) + (high as u16) * 256
-}
-
-fn wide(x: u8) -> u16
-    ensures { result ≡ x }
-{
-    x as u16
+    u16::from(low) + u16::from(high) * 256
 }
 
 // Period, deadline and compute, low byte first; criticality; flag.
@@ -59,8 +46,8 @@ fn task_row(body: &[u8]) -> TaskRow
         period: word(body[0], body[1]),
         deadline: word(body[2], body[3]),
         compute: word(body[4], body[5]),
-        criticality: wide(body[6]),
-        flag: wide(body[7]),
+        criticality: u16::from(body[6]),
+        flag: u16::from(body[7]),
     }
 }
 
@@ -71,125 +58,113 @@ fn connection_row(body: &[u8]) -> ConnectionRow
     ensures { connection_words_of result ≡ connection_row body.now }
 {
     ConnectionRow {
-        sender: wide(body[0]),
-        receiver: wide(body[1]),
-        kind: wide(body[2]),
+        sender: u16::from(body[0]),
+        receiver: u16::from(body[1]),
+        kind: u16::from(body[2]),
     }
 }
 
-// The mark decides the record, at byte `at` behind t tasks and c connections; the body is the part of the file after the mark.
+// The mark decides the record; the body is the part of the file after the mark.
 #[tactic(auto, unfolding(rules::specs::File::marked))]
-fn record_at(mark: u16, body: &[u8], at: usize, t: usize, c: usize) -> Item
-    requires { at < 9223372036854775808 }
-    ensures { item_is result ≡ marked mark at t c body.now }
+fn record_at(mark: u16, body: &[u8], at: Place) -> Result<Item, Refusal>
+    requires { at.byte < 9223372036854775808 }
+    ensures { item_is result ≡ marked mark at.byte at.read.tasks at.read.connections body.now }
 {
     match mark {
         0x544B => {
-            if t >= 32 {
-                return Item::Refused(12, at);
+            if at.read.tasks >= 32 {
+                return Err(Refusal::TooMany(at.byte));
             }
             if body.len() < 8 {
-                return Item::Refused(11, at);
+                return Err(Refusal::CutShort(at.byte));
             }
-            Item::Task(task_row(body))
+            Ok(Item::Task(task_row(body)))
         }
         0x434E => {
-            if c >= 64 {
-                return Item::Refused(12, at);
+            if at.read.connections >= 64 {
+                return Err(Refusal::TooMany(at.byte));
             }
             if body.len() < 3 {
-                return Item::Refused(11, at);
+                return Err(Refusal::CutShort(at.byte));
             }
-            Item::Connection(connection_row(body))
+            Ok(Item::Connection(connection_row(body)))
         }
         0x454E => {
             if body.len() > 0 {
-                return Item::Refused(13, at + 2);
+                return Err(Refusal::EndWanted(at.byte + 2));
             }
-            Item::End
+            Ok(Item::End)
         }
-        _ => Item::Refused(10, at),
+        _ => Err(Refusal::UnknownMark(at.byte)),
     }
 }
 
-// What stands at byte `at`.
-fn item_at(file: &[u8], at: usize, t: usize, c: usize) -> Item
-    ensures { item_is result ≡ item_at at t c (drop at file.now) }
+fn item_at(file: &[u8], at: Place) -> Result<Item, Refusal>
+    ensures { item_is result ≡ item_at at.byte at.read.tasks at.read.connections (drop at.byte file.now) }
 {
-    if file.len() <= at {
-        return Item::Refused(13, at);
+    let byte = at.byte;
+    if file.len() <= byte {
+        return Err(Refusal::EndWanted(byte));
     }
-    if file.len() - at == 1 {
-        return Item::Refused(11, at);
+    if file.len() - byte == 1 {
+        return Err(Refusal::CutShort(byte));
     }
-    let mark = word(file[at + 1], file[at]);
-    record_at(mark, &file[at + 2..], at, t, c)
+    let mark = word(file[byte + 1], file[byte]);
+    record_at(mark, &file[byte + 2..], at)
 }
 
-fn store_task(tasks: &mut [u16], at: usize, row: TaskRow, store: bool)
-    requires { at + 5 ≤ length tasks.old }
-    ensures { tasks.new ≡ stored store tasks.old at (task_words_of row) }
-{
-    if store {
-        tasks[at] = row.period;
-        tasks[at + 1] = row.deadline;
-        tasks[at + 2] = row.compute;
-        tasks[at + 3] = row.criticality;
-        tasks[at + 4] = row.flag;
-    }
-}
-
-fn store_connection(connections: &mut [u16], at: usize, row: ConnectionRow, store: bool)
-    requires { at + 3 ≤ length connections.old }
-    ensures { connections.new ≡ stored store connections.old at (connection_words_of row) }
+// A row of words into a table, where `store` says so.
+fn put_row(table: &mut [u16], at: usize, words: &[u16], store: bool)
+    requires { at + length words.now ≤ length table.old }
+    ensures { table.new ≡ stored store table.old at words.now }
 {
     if store {
-        connections[at] = row.sender;
-        connections[at + 1] = row.receiver;
-        connections[at + 2] = row.kind;
+        table[at..at + words.len()].copy_from_slice(words);
     }
 }
 
 // One pass over the records: the answer, and where `store` says so the rows in the tables.
-fn pass(file: &[u8], tasks: &mut [u16], connections: &mut [u16], store: bool) -> Reading
+fn pass(
+    file: &[u8],
+    tasks: &mut [u16],
+    connections: &mut [u16],
+    store: bool,
+) -> Result<Counts, Refusal>
     requires { (160 ≤ length tasks.old) × (192 ≤ length connections.old) }
     ensures { PassIs store file.now tasks.old connections.old result tasks.new connections.new }
 {
-    let mut at: usize = 0;
-    let mut t: usize = 0;
-    let mut c: usize = 0;
+    let mut at = Place {
+        byte: 0,
+        read: Counts {
+            tasks: 0,
+            connections: 0,
+        },
+    };
     loop {
-        match item_at(file, at, t, c) {
+        match item_at(file, at)? {
             Item::Task(row) => {
-                store_task(tasks, t * 5, row, store);
-                at += 10;
-                t += 1;
+                put_row(tasks, at.read.tasks * 5, &row.words(), store);
+                at.byte += 10;
+                at.read.tasks += 1;
             }
             Item::Connection(row) => {
-                store_connection(connections, c * 3, row, store);
-                at += 5;
-                c += 1;
+                put_row(connections, at.read.connections * 3, &row.words(), store);
+                at.byte += 5;
+                at.read.connections += 1;
             }
-            Item::End => {
-                return Reading::Read(t, c);
-            }
-            Item::Refused(n, p) => {
-                return Reading::Refused(n, p);
-            }
+            Item::End => return Ok(at.read),
         }
     }
 }
 
 // How many tasks and connections the file has, with their rows at the front of the tables; or the first refusal, with the
 // tables as they were. A refused file may change no table, so the first pass only looks.
-pub fn read(file: &[u8], tasks: &mut [u16], connections: &mut [u16]) -> Reading
+pub fn read(file: &[u8], tasks: &mut [u16], connections: &mut [u16]) -> Result<Counts, Refusal>
     ensures { ReadIs file.now tasks.old connections.old result tasks.new connections.new }
 {
-    if (tasks.len() < 160) | (connections.len() < 192) {
-        return Reading::Refused(9, 0);
+    if tasks.len() < 160 || connections.len() < 192 {
+        return Err(Refusal::LittleRoom);
     }
-    match pass(file, tasks, connections, false) {
-        Reading::Refused(n, p) => Reading::Refused(n, p),
-        Reading::Read(_, _) => pass(file, tasks, connections, true),
-    }
+    pass(file, tasks, connections, false)?;
+    pass(file, tasks, connections, true)
 }

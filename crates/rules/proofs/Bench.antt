@@ -17,7 +17,8 @@ use Rattle.rules.specs.Runs.{Call, Call.tick, Moment, start, after, counted, Job
 use Rattle.rules.specs.declared.State.{State}
 use Rattle.rules.specs.declared.Plan.{Plan}
 use Rattle.rules.specs.declared.Answer.{Answer}
-use Rattle.rules.specs.declared.Verdict.TheVariants as verdict
+use Rattle.std.specs.Prelude.{Ok, Err}
+use Rattle.rules.proofs.Answers.{refusal_of}
 use Rattle.rules.proofs.Deciding.{Decision, restated, both, where_so, all, some, every, equal, lt, tested, Each}
 use Rattle.rules.proofs.DecidingPlans.{plan_is}
 
@@ -91,7 +92,7 @@ padded xs = xs ++ replicate (most_tasks - length xs) 0
 
 abbrev pub accepted : List ℕ → List ℕ → List ℕ → ℕ → Plan
 accepted order deadlines criticalities multiple = record {
-  verdict = verdict.Accepted;
+  verdict = Ok tt;
   order = padded order;
   deadlines = padded deadlines;
   criticalities = padded criticalities;
@@ -100,7 +101,7 @@ accepted order deadlines criticalities multiple = record {
 
 abbrev pub refused : ℕ → ℕ → Plan
 refused number place = record {
-  verdict = verdict.Refused number place;
+  verdict = Err (refusal_of number place);
   order = padded [];
   deadlines = padded [];
   criticalities = padded [];

@@ -9,7 +9,6 @@ use native.Mathlib.Omega.{arith}
 use lib.Dec.{eqb, ltb}
 use borrow.Author.Tests.{eqb-false}
 use Rattle.rules.specs.Views.{dispatch, set_halted}
-use Rattle.rules.specs.Refusals.{nothing_runs, is_halted, out_of_range}
 use Rattle.rules.specs.Steps.{step, released, records, delivered, dispatched, missing, some_runs, running, chosen, advanced, ticking, ended_at, completing}
 use Rattle.rules.specs.Range.{in_range}
 use Rattle.rules.specs.Calls.{judged, tick_of, complete_of}
@@ -19,6 +18,8 @@ use Rattle.rules.specs.declared.State.{State}
 use Rattle.rules.specs.declared.Step.{Step}
 use Rattle.rules.specs.declared.Answer.{Answer}
 use Rattle.rules.specs.declared.Answer.TheVariants as answer
+use Rattle.rules.specs.declared.Refusal.{Refusal}
+use Rattle.rules.specs.declared.Refusal.TheVariants.{NothingRuns, Halted, OutOfRange}
 use Rattle.rules.proofs.Tests.{cond_by, false_true, eq_or}
 use Rattle.rules.proofs.Counting.{map_below-keeps}
 use Rattle.rules.proofs.Answers.{step-one}
@@ -29,11 +30,11 @@ use Rattle.rules.proofs.Kept.{Kept, kept_refl, moved-on_kept, ticking-kept, comp
 -- ---------------------------------------------------------------------------------------------------------------------------
 -- The three ways of a judged call.
 
-pub judged-out : (ranged halted : Bool) (s : State) (r : Step) → ranged ≡ false → judged ranged halted s r ≡ step (answer.Refused out_of_range 0) s
+pub judged-out : (ranged halted : Bool) (s : State) (r : Step) → ranged ≡ false → judged ranged halted s r ≡ step (answer.Refused OutOfRange) s
 unfolding judged
 judged-out ranged halted s r e = rw e
 
-pub judged-halted : (ranged halted : Bool) (s : State) (r : Step) → ranged ≡ true → halted ≡ true → judged ranged halted s r ≡ step (answer.Refused is_halted 0) s
+pub judged-halted : (ranged halted : Bool) (s : State) (r : Step) → ranged ≡ true → halted ≡ true → judged ranged halted s r ≡ step (answer.Refused Halted) s
 unfolding judged
 judged-halted ranged halted s r e q = rw (e, q)
 
@@ -43,11 +44,11 @@ judged-on ranged halted s r e q = rw (e, q)
 
 -- what holds of a call that is carried out, and of a refusal of the state given, holds of the judged call
 pub judged-by : (P : Step → Type 0) (ranged halted : Bool) (s : State) (r : Step) →
-    ((n : ℕ) → P (step (answer.Refused n 0) s)) → (ranged ≡ true → halted ≡ false → P r) → P (judged ranged halted s r)
+    ((f : Refusal) → P (step (answer.Refused f) s)) → (ranged ≡ true → halted ≡ false → P r) → P (judged ranged halted s r)
 unfolding judged
-judged-by P true true s r stop go = stop is_halted
+judged-by P true true s r stop go = stop Halted
 judged-by P true false s r stop go = go refl refl
-judged-by P false halted s r stop go = stop out_of_range
+judged-by P false halted s r stop go = stop OutOfRange
 
 -- ---------------------------------------------------------------------------------------------------------------------------
 -- The statements of tick and completion admit one answer each.
@@ -77,7 +78,7 @@ ticking-accepts s =
 completing-refused : (s : State) (w : ℕ) → ReturnsIfRefused s (completing s w)
 unfolding completing
 completing-refused s w =
-    cond_by (ReturnsIfRefused s) (some_runs s) (chosen (ended_at s (running s) w)) (step (answer.Refused nothing_runs 0) s)
+    cond_by (ReturnsIfRefused s) (some_runs s) (chosen (ended_at s (running s) w)) (step (answer.Refused NothingRuns) s)
     (λ _ e. absurd (false_true (sym (chosen-accepts (ended_at s (running s) w)) ∙ e)))
     (λ _ _. refl)
 
@@ -196,7 +197,7 @@ completing-below : (s : State) (w : ℕ) → Ranged s → OwnBelow s (completing
 unfolding completing
 completing-below s w r =
     let b = ranged_below s r in
-    cond_by (λ (x : Step). OwnBelow s x.state) (some_runs s) (chosen (ended_at s (running s) w)) (step (answer.Refused nothing_runs 0) s)
+    cond_by (λ (x : Step). OwnBelow s x.state) (some_runs s) (chosen (ended_at s (running s) w)) (step (answer.Refused NothingRuns) s)
     (λ _. chosen-below s.count s.multiple (ended_at s (running s) w) (ended_at-below s.count s.multiple s (running s) w b))
     (λ _. b)
 

@@ -1,7 +1,7 @@
 -- Laws of the words that the rules are written in. A loop that searches, tests or changes place by place has one of these words as
 -- its invariant, at the place that it has come to; its proof cites the law of a turn and the law of the end.
 use mathlib.Core.Path.{◌≡◌, refl, ap, sym, ◌∙◌}
-use mathlib.Core.Bool.{Bool, true, false, not, cond, ◌&&◌}
+use mathlib.Core.Bool.{Bool, true, false, ◌&&◌}
 use mathlib.Core.List.{List, [], ◌∷◌}
 use mathlib.Core.Logic.{⊎_elim}
 use Prim.Native.Nat.{ℕ, zero, suc, ◌+◌, ◌≤◌, ◌<◌, suc-le-suc}
@@ -10,7 +10,7 @@ use native.Mathlib.Numerals.{add-one}
 use native.Mathlib.Nat.{le_of_suc-le-suc, not-suc-le-zero}
 use lib.ListN.{get_or, set, length, replicate, length-replicate}
 use Rattle.rules.specs.Counting.{first_of, all_below, map_below, column}
-use Rattle.rules.proofs.Tests.{by_test, and_left, and_right, and_both, and_not_left, and_not_right, lt_or, eq_or}
+use Rattle.rules.proofs.Tests.{by_test, and_left, and_right, and_both, and_not_left, and_not_right, lt_or}
 
 -- ---------------------------------------------------------------------------------------------------------------------------
 -- mapBelow

@@ -14,8 +14,9 @@ use Rattle.rules.specs.Order.{less_chain, IsDeadline, IsCriticality, IsMultiple,
 use Rattle.rules.specs.Refusals.{Sound}
 use Rattle.rules.specs.Plan.{ZeroFrom, internal_deadline, internal_criticality, Accepts, Refuses, Judges, PlanIs}
 use Rattle.rules.specs.declared.Plan.{Plan}
-use Rattle.rules.specs.declared.Verdict.{Verdict}
-use Rattle.rules.specs.declared.Verdict.TheVariants.{Accepted, Refused}
+use Rattle.std.specs.Prelude.{Result, Ok, Err}
+use Rattle.rules.specs.Answers.{number_of, place_of}
+use Rattle.rules.specs.declared.Refusal.{Refusal}
 use Rattle.rules.proofs.Tests.{lt_or}
 use Rattle.rules.proofs.Chains.{chain_ends, upto_longest, longest_one}
 use Rattle.rules.proofs.Refusals.{none_more, none_at_all, lengths_of, tables_of, no_circle}
@@ -187,9 +188,9 @@ module _ (tw cw : List ℕ) (r : Plan) where
       (both (refusal tw cw k p)
       (both (zero_from 0 r.order) (both (zero_from 0 r.deadlines) (both (zero_from 0 r.criticalities) (equal r.multiple 0)))))
 
-  abbrev judges : (v : Verdict) → Decision (Judges tw cw v r)
-  judges Accepted = accepts
-  judges (Refused k p) = refuses k p
+  abbrev judges : (v : Result (Unit {0}) Refusal) → Decision (Judges tw cw v r)
+  judges (Ok _) = accepts
+  judges (Err f) = refuses (number_of f) (place_of f)
 
 -- whether a plan is the planner's answer to the tables
 abbrev pub plan_is : (tw cw : List ℕ) (r : Plan) → Decision (PlanIs tw cw r)

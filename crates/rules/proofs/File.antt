@@ -1,22 +1,19 @@
 -- Laws of the machine file (01, "The two tables and the machine file"): what a record that is read shows, how the file goes on behind
 -- it, that the count of records never runs out, and how many tasks and connections an accepted file has.
-use mathlib.Core.Path.{◌≡◌, refl, ap, sym, subst, ◌∙◌}
-use mathlib.Core.Bool.{Bool, true, false, cond, ◌||◌}
-use mathlib.Core.List.{List, [], ◌∷◌, ◌++◌}
-use Prim.Native.Nat.{ℕ, zero, suc, ◌+◌, ◌*◌, ◌-◌, ◌/◌, ◌≤◌, ◌<◌}
+use mathlib.Core.Path.{◌≡◌, refl, subst, ◌∙◌}
+use mathlib.Core.List.{List, [], ◌∷◌}
+use Prim.Native.Nat.{ℕ, zero, suc, ◌+◌, ◌*◌, ◌-◌, ◌≤◌, ◌<◌}
 use native.Mathlib.Omega.{arith}
 use native.Mathlib.Numerals.{add-one, add-two}
 use native.Mathlib.Nat.{zero-add}
 use lib.ListN.{length, get_or, drop, length-drop, length-append, drop_of_length-le}
 use lib.Seq.{drop-cons, drop-drop}
 use lib.Dec.{ltb, leb, eqb}
-use borrow.Author.Tests.{lt-ltb, le-ltb, le-leb, lt-leb, ltb-false, leb-false}
+use borrow.Author.Tests.{ltb-false, leb-false}
 use Rattle.rules.specs.Sizes.{most_tasks, most_rows}
 use Rattle.rules.specs.Tables.{count, rows}
 use Rattle.rules.specs.Refusals.{cut_short, end_wanted}
-use Rattle.rules.specs.File.{word, TK, CN, EN, task_row, connection_row, Item, marked, item_at, Contents, onward, records, most_records, contents_of, reading_of, task_words, connection_words, read_of}
-use Rattle.rules.specs.declared.Reading.{Reading}
-use Rattle.rules.specs.declared.Reading.TheVariants as reading
+use Rattle.rules.specs.File.{Reading, word, TK, CN, EN, task_row, connection_row, Item, marked, item_at, Contents, onward, records, most_records, contents_of, reading_of, task_words, connection_words}
 use Rattle.rules.proofs.Tests.{cond_by}
 
 -- ---------------------------------------------------------------------------------------------------------------------------
@@ -106,19 +103,19 @@ module _ (file : List ℕ) (at t c : ℕ) (few_tasks : t ≤ most_tasks) (few_ro
 
 -- what an answer says of the contents behind t tasks and c connections, in a file of so many bytes
 abbrev pub Tells : ℕ → ℕ → ℕ → Contents → Reading → Type 0
-Tells size t c k (reading.Read t' c') =
+Tells size t c k (Reading.Read t' c') =
     (t' ≤ most_tasks) × (c' ≤ most_rows) × (length (task_words k) + t * 5 ≡ t' * 5) × (length (connection_words k) + c * 3 ≡ c' * 3)
-Tells size t c k (reading.Refused n p) = (10 ≤ n) × (n ≤ 13) × (p ≤ size)
+Tells size t c k (Reading.Refused n p) = (10 ≤ n) × (n ≤ 13) × (p ≤ size)
 
 tells_task : (size t c : ℕ) (ws : List ℕ) (k : Contents) (r : Reading) → length ws ≡ 5 → Tells size (t + 1) c k r → Tells size t c (Contents.task ws k) r
 unfolding task_words connection_words
-tells_task size t c ws k (reading.Read t' c') e h = (h.0, h.1, omega (arith, length-append ws (task_words k)), h.3)
-tells_task size t c ws k (reading.Refused n p) e h = h
+tells_task size t c ws k (Reading.Read t' c') e h = (h.0, h.1, omega (arith, length-append ws (task_words k)), h.3)
+tells_task size t c ws k (Reading.Refused n p) e h = h
 
 tells_connection : (size t c : ℕ) (ws : List ℕ) (k : Contents) (r : Reading) → length ws ≡ 3 → Tells size t (c + 1) k r → Tells size t c (Contents.connection ws k) r
 unfolding task_words connection_words
-tells_connection size t c ws k (reading.Read t' c') e h = (h.0, h.1, h.2, omega (arith, length-append ws (connection_words k)))
-tells_connection size t c ws k (reading.Refused n p) e h = h
+tells_connection size t c ws k (Reading.Read t' c') e h = (h.0, h.1, h.2, omega (arith, length-append ws (connection_words k)))
+tells_connection size t c ws k (Reading.Refused n p) e h = h
 
 -- the count of records never runs out: each record but the last uses up room, and there is room for 32 tasks and 64 connections
 module _ (n : ℕ) (more : (at t c : ℕ) (rest : List ℕ) → t ≤ most_tasks → c ≤ most_rows → most_records ≤ n + (t + c) → Tells (at + length rest) t c (records n at t c rest) (reading_of t c (records n at t c rest))) where
@@ -147,7 +144,7 @@ contents_tell file = subst (λ (z : ℕ). Tells z 0 0 (contents_of file) (readin
     (records-tell most_records 0 0 0 file (omega arith) (omega arith) (omega arith))
 
 -- the zero line of `records` is never reached: a refusal is one of 10 to 13, at a place within the file
-pub contents_ends : (file : List ℕ) (n p : ℕ) → reading_of 0 0 (contents_of file) ≡ reading.Refused n p → (10 ≤ n) × (n ≤ 13) × (p ≤ length file)
+pub contents_ends : (file : List ℕ) (n p : ℕ) → reading_of 0 0 (contents_of file) ≡ Reading.Refused n p → (10 ≤ n) × (n ≤ 13) × (p ≤ length file)
 contents_ends file n p e = subst (Tells (length file) 0 0 (contents_of file)) e (contents_tell file)
 
 -- an accepted file has at most 32 tasks and 64 connections, with five and three words to each
@@ -159,7 +156,7 @@ pub record Counts (t c : ℕ) (tw cw : List ℕ) : Type 0 where
   pub tasks : t ≡ count tw
   pub rows : c ≡ Rattle.rules.specs.Tables.rows cw
 
-pub contents_counts : (file : List ℕ) (t c : ℕ) → reading_of 0 0 (contents_of file) ≡ reading.Read t c → Counts t c (task_words (contents_of file)) (connection_words (contents_of file))
+pub contents_counts : (file : List ℕ) (t c : ℕ) → reading_of 0 0 (contents_of file) ≡ Reading.Read t c → Counts t c (task_words (contents_of file)) (connection_words (contents_of file))
 contents_counts file t c e =
     let h = subst (Tells (length file) 0 0 (contents_of file)) e (contents_tell file) in
     record { few_tasks = h.0; few_rows = h.1; task_words = omega arith; row_words = omega arith; tasks = omega arith; rows = omega arith }

@@ -7,12 +7,11 @@ use mathlib.Core.Logic.{⊎_elim}
 use Prim.Native.Nat.{ℕ, zero, suc, ◌+◌, ◌*◌, ◌-◌, ◌≤◌, ◌<◌}
 use native.Mathlib.Omega.{arith}
 use native.Mathlib.Nat.{zero-add, suc-add}
-use lib.ListN.{length, get_or, drop, take}
+use lib.ListN.{length, drop, take}
 use lib.Seq.{take_all, length-take-le, get_or-take, take-nil, drop-nil}
 use lib.Dec.{ltb, leb, eqb}
 use borrow.Author.Tests.{lt-ltb, le-ltb, leb-false}
 use Rattle.rules.specs.Sizes.{most_tasks, most_rows}
-use Rattle.rules.specs.Refusals.{too_many, cut_short, end_wanted}
 use Rattle.rules.specs.File.{word, TK, CN, EN, task_row, connection_row, Item, marked, item_at, Contents, onward, records, most_records, contents_of, read_of}
 use Rattle.rules.proofs.Tests.{lt_or}
 use Rattle.rules.proofs.File.{Sound, item_sound}

@@ -12,11 +12,11 @@ use borrow.Author.Tests.{ltb-true}
 use Rattle.rules.specs.Counting.{map_below}
 use Rattle.rules.specs.Views.{task_in, ordered, moved, set_halted}
 use Rattle.rules.specs.Steps.{step, delivers, delivered, samples, wakes, records, dispatched, missing, running_place, some_runs, running, takes, started_at, chosen, advanced, ticking, posts, ended_at, completing}
-use Rattle.rules.specs.Refusals.{nothing_runs}
 use Rattle.rules.specs.declared.Phase.TheVariants as phase
 use Rattle.rules.specs.declared.State.{State}
 use Rattle.rules.specs.declared.Step.{Step}
 use Rattle.rules.specs.declared.Answer.TheVariants as answer
+use Rattle.rules.specs.declared.Refusal.TheVariants.{NothingRuns}
 use Rattle.rules.proofs.Tests.{cond_by, and_left}
 use Rattle.rules.proofs.Counting.{map_below-length, map_below-past}
 use Rattle.rules.proofs.Steps.{SamePlan, starts, chosen-state}
@@ -181,7 +181,7 @@ pub completing-kept : (s : State) (w : ℕ) → NamesTasks s → Kept s (complet
 unfolding completing
 completing-kept s w h =
     let z = ended_at s (running s) w in
-    cond_by (λ (r : Step). Kept s r.state) (some_runs s) (chosen z) (step (answer.Refused nothing_runs 0) s)
+    cond_by (λ (r : Step). Kept s r.state) (some_runs s) (chosen z) (step (answer.Refused NothingRuns) s)
     (λ e.
     let k : Kept s z = ended_at-kept s (running s) w (running-task s h e) in
     kept_trans s z (chosen z).state k (chosen-kept z (names-plan s z k.plan h)))

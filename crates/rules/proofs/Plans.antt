@@ -1,6 +1,6 @@
 -- The planner's statement admits one answer only: `plan_one`. Accepted and refused shut each other out, a refusal is one number
 -- and place, and the numbers of an accepted plan are one each.
-use mathlib.Core.Path.{◌≡◌, refl, sym, ◌∙◌, subst}
+use mathlib.Core.Path.{◌≡◌, refl, ap, sym, ◌∙◌, subst}
 use mathlib.Core.Logic.{⊎_elim}
 use mathlib.Core.List.{List}
 use Prim.Native.Nat.{ℕ, ◌<◌}
@@ -11,9 +11,11 @@ use Rattle.rules.specs.Tables.{count}
 use Rattle.rules.specs.Order.{IsOrder}
 use Rattle.rules.specs.Plan.{ZeroFrom, Accepts, Refuses, Judges, PlanIs, internal_deadline, internal_criticality}
 use Rattle.rules.specs.declared.Plan.{Plan}
-use Rattle.rules.specs.declared.Verdict.{Verdict}
-use Rattle.rules.specs.declared.Verdict.TheVariants.{Accepted, Refused}
+use Rattle.std.specs.Prelude.{Result, Ok, Err}
+use Rattle.rules.specs.Answers.{number_of, place_of}
+use Rattle.rules.specs.declared.Refusal.{Refusal}
 use Rattle.rules.proofs.Tests.{lt_or}
+use Rattle.rules.proofs.Answers.{refusal_one_of}
 use Rattle.rules.proofs.Refusals.{refusal_one, refused-not_sound}
 use Rattle.rules.proofs.Order.{deadline-one, criticality-one, multiple_one, order_one}
 
@@ -55,8 +57,8 @@ module _ (tw cw : List ℕ) (r s : Plan) where
           (subst (λ (x : List ℕ). OrderBy s.deadlines x) criticalities (subst (λ (x : List ℕ). OrderBy x r.criticalities) deadlines a.order_is))
           b.order_is)
 
-  refuses_one : (k p l q : ℕ) → r.verdict ≡ Refused k p → s.verdict ≡ Refused l q → Refuses tw cw k p r → Refuses tw cw l q s → r ≡ s
-  refuses_one k p l q er es a b = λ i. record {
+  refuses_one : (f g : Refusal) → r.verdict ≡ Err f → s.verdict ≡ Err g → Refuses tw cw (number_of f) (place_of f) r → Refuses tw cw (number_of g) (place_of g) s → r ≡ s
+  refuses_one f g er es a b = λ i. record {
     verdict = same i;
     order = zeros_one r.order s.order a.order_none b.order_none i;
     deadlines = zeros_one r.deadlines s.deadlines a.deadlines_none b.deadlines_none i;
@@ -64,17 +66,17 @@ module _ (tw cw : List ℕ) (r s : Plan) where
     multiple = (a.multiple_none ∙ sym b.multiple_none) i;
   }
     where
-      one : (k ≡ l) × (p ≡ q)
-      one = refusal_one tw cw k p l q a.because b.because
+      one : (number_of f ≡ number_of g) × (place_of f ≡ place_of g)
+      one = refusal_one tw cw (number_of f) (place_of f) (number_of g) (place_of g) a.because b.because
 
       same : r.verdict ≡ s.verdict
-      same = er ∙ (λ i. Refused (one.0 i) (one.1 i)) ∙ sym es
+      same = er ∙ ap Err (refusal_one_of f g one.0 one.1) ∙ sym es
 
-  judges_one : (v w : Verdict) → r.verdict ≡ v → s.verdict ≡ w → Judges tw cw v r → Judges tw cw w s → r ≡ s
-  judges_one Accepted Accepted er es a b = accepts_one (er ∙ sym es) a b
-  judges_one Accepted (Refused k p) er es a b = absurd (refused-not_sound tw cw k p b.because a.sound)
-  judges_one (Refused k p) Accepted er es a b = absurd (refused-not_sound tw cw k p a.because b.sound)
-  judges_one (Refused k p) (Refused l q) er es a b = refuses_one k p l q er es a b
+  judges_one : (v w : Result (Unit {0}) Refusal) → r.verdict ≡ v → s.verdict ≡ w → Judges tw cw v r → Judges tw cw w s → r ≡ s
+  judges_one (Ok x) (Ok y) er es a b = accepts_one (er ∙ sym es) a b
+  judges_one (Ok x) (Err g) er es a b = absurd (refused-not_sound tw cw (number_of g) (place_of g) b.because a.sound)
+  judges_one (Err f) (Ok y) er es a b = absurd (refused-not_sound tw cw (number_of f) (place_of f) a.because b.sound)
+  judges_one (Err f) (Err g) er es a b = refuses_one f g er es a b
 
 -- two answers that meet the planner's statement are the same answer
 pub plan_one : (tw cw : List ℕ) (r s : Plan) → PlanIs tw cw r → PlanIs tw cw s → r ≡ s

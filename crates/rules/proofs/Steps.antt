@@ -5,7 +5,6 @@ use mathlib.Core.Bool.{Bool, true, false, cond, ◌&&◌}
 use Prim.Native.Nat.{ℕ, ◌≤◌, ◌<◌}
 use lib.Dec.{ltb}
 use borrow.Author.Tests.{lt-ltb, le-ltb}
-use Rattle.rules.specs.Refusals.{nothing_runs}
 use lib.ListN.{get_or, length}
 use lib.Seq.{get_or-set_same, get_or-set_other}
 use Rattle.rules.specs.Views.{waiting, task_in, phase_of, output, dispatch, buffer, input, moved, set_halted}
@@ -17,6 +16,7 @@ use Rattle.rules.specs.declared.State.{State}
 use Rattle.rules.specs.declared.Step.{Step}
 use Rattle.rules.specs.declared.Answer.{Answer}
 use Rattle.rules.specs.declared.Answer.TheVariants as answer
+use Rattle.rules.specs.declared.Refusal.TheVariants.{NothingRuns}
 use Rattle.rules.proofs.Tests.{cond_map, cond_same, cond_by, cond_true, cond_false}
 use Rattle.rules.proofs.Counting.{map_below-at}
 
@@ -265,7 +265,7 @@ pub ticking-on : (s : State) → s.count ≤ missing s → ticking s ≡ chosen 
 unfolding ticking
 ticking-on s h = cond_false (ltb (missing s) s.count) _ _ (le-ltb _ _ h) ∙ sym (chosen-advanced (dispatched (delivered s)))
 
-pub completing-none : (s : State) (w : ℕ) → some_runs s ≡ false → completing s w ≡ step (answer.Refused nothing_runs 0) s
+pub completing-none : (s : State) (w : ℕ) → some_runs s ≡ false → completing s w ≡ step (answer.Refused NothingRuns) s
 unfolding completing
 completing-none s w e = cond_false (some_runs s) _ _ e
 

@@ -3,10 +3,8 @@ use mathlib.Core.Path.{◌≡◌, refl}
 use mathlib.Core.List.{List, [], ◌∷◌}
 use Prim.Native.Nat.{ℕ}
 use Rattle.rules.specs.Sizes.{most_task_words, most_row_words}
-use Rattle.rules.specs.File.{records, onward, item_at, marked, reading_of, read_of, task_words, connection_words, contents_of}
+use Rattle.rules.specs.File.{Reading, Reading.Read, Reading.Refused, records, onward, item_at, marked, reading_of, read_of, task_words, connection_words, contents_of}
 use Rattle.rules.specs.Plan.{PlanIs}
-use Rattle.rules.specs.declared.Reading.{Reading}
-use Rattle.rules.specs.declared.Reading.TheVariants.{Read, Refused}
 use Rattle.rules.proofs.DecidingPlans.{plan_is}
 use Rattle.rules.proofs.Bench.{periodic, accepted, refused}
 

@@ -1,5 +1,5 @@
 -- The words that the rules are written in: the first of several, all of several, and a list changed place by place.
-use Rattle.std.specs.Prelude.{Bool, true, false, cond, ◌&&◌, List, [], ◌∷◌, ℕ, zero, suc, replicate}
+use Rattle.std.specs.Prelude.{Bool, true, cond, ◌&&◌, List, [], ◌∷◌, ℕ, zero, suc, replicate}
 
 -- the least i below n with p i, and n where there is none
 abbrev pub first_of : (ℕ → Bool) → ℕ → ℕ

@@ -1,10 +1,8 @@
 -- 01, "the machine file": a run of records, each behind a two-byte mark in ASCII.
-use Rattle.std.specs.Prelude.{◌≡◌, Bool, true, false, cond, ◌||◌, List, [], ◌∷◌, ◌++◌, ℕ, zero, suc, ◌+◌, ◌*◌, length, get_or, drop, ltb, leb, eqb}
+use Rattle.std.specs.Prelude.{cond, ◌||◌, List, [], ◌∷◌, ◌++◌, ℕ, zero, suc, ◌+◌, ◌*◌, length, get_or, drop, ltb, leb, eqb}
 use Rattle.std.proofs.lemmas.List.Edits.{sets}
 use Rattle.rules.specs.Sizes.{most_tasks, most_rows, most_task_words, most_row_words}
 use Rattle.rules.specs.Refusals.{little_room, unknown_mark, cut_short, too_many, end_wanted}
-use Rattle.rules.specs.declared.Reading.{Reading}
-use Rattle.rules.specs.declared.Reading.TheVariants as reading
 
 -- "two bytes each, low byte first"
 abbrev pub word : ℕ → ℕ → ℕ
@@ -80,12 +78,16 @@ records (suc n) at t c rest = onward (item_at at t c rest) (records n) at t c re
 abbrev pub contents_of : List ℕ → Contents
 contents_of file = records most_records 0 0 0 file
 
--- "It answers how many tasks and connections it read."
+-- "It answers how many tasks and connections it read", or a refusal's number and place
+pub data Reading : Type 0 where
+  Read : ℕ → ℕ → Reading
+  Refused : ℕ → ℕ → Reading
+
 unfoldable pub reading_of : ℕ → ℕ → Contents → Reading
 reading_of t c (task ws more) = reading_of (t + 1) c more
 reading_of t c (connection ws more) = reading_of t (c + 1) more
-reading_of t c end = reading.Read t c
-reading_of t c (refusal n p) = reading.Refused n p
+reading_of t c end = Read t c
+reading_of t c (refusal n p) = Refused n p
 
 -- "The reader fills the tables in file order": the words of all tasks, and of all connections
 unfoldable pub task_words : Contents → List ℕ
@@ -103,10 +105,10 @@ connection_words (refusal n p) = []
 -- "The reader tests 9 first, then goes record by record"; it is lent tables of so many words
 unfoldable pub read_of : List ℕ → ℕ → ℕ → Reading
 read_of file taskRoom rowRoom =
-    cond (ltb taskRoom most_task_words || ltb rowRoom most_row_words) (reading.Refused little_room 0)
+    cond (ltb taskRoom most_task_words || ltb rowRoom most_row_words) (Refused little_room 0)
     (reading_of 0 0 (contents_of file))
 
 -- "Words past the filled rows stay unchanged"; "a refused reader changes neither table"
 unfoldable pub filled : Reading → List ℕ → List ℕ → List ℕ
-filled (reading.Read t c) words table = sets table 0 words
-filled (reading.Refused n p) words table = table
+filled (Read t c) words table = sets table 0 words
+filled (Refused n p) words table = table

@@ -1,7 +1,7 @@
 -- Fresh start. "The planner and fresh start use 1 to 8." "A fresh state has all words and dispatch cycles 0, all tasks idle, cycle
 -- 0, no tick yet, not halted." Past its counts "a fresh start puts zeros and idle there"; "a refused fresh start answers a halted
 -- state of zeros, all idle, no tick yet".
-use Rattle.std.specs.Prelude.{Bool, true, false, List, [], ℕ, replicate, eqb}
+use Rattle.std.specs.Prelude.{true, false, List, [], ℕ, replicate, eqb, Result, Ok, Err}
 use Rattle.rules.specs.Counting.{column}
 use Rattle.rules.specs.Sizes.{most_tasks, most_rows}
 use Rattle.rules.specs.Tables.{count, rows, period, deadline, compute, criticality, flag, sender, receiver, kind}
@@ -13,8 +13,7 @@ use Rattle.rules.specs.declared.Phase.TheVariants as phase
 use Rattle.rules.specs.declared.State.{State}
 use Rattle.rules.specs.declared.Step.{Step}
 use Rattle.rules.specs.declared.Plan.{Plan}
-use Rattle.rules.specs.declared.Verdict.{Verdict}
-use Rattle.rules.specs.declared.Verdict.TheVariants as verdict
+use Rattle.rules.specs.declared.Refusal.{Refusal}
 use Rattle.rules.specs.declared.Answer.TheVariants as answer
 
 -- the columns of the tables, and all at rest
@@ -45,7 +44,7 @@ fresh_state tw cw p = record {
 -- no tables and no plan, halted
 abbrev pub no_plan : Plan
 no_plan = record {
-  verdict = verdict.Accepted;
+  verdict = Ok tt;
   order = replicate most_tasks 0;
   deadlines = replicate most_tasks 0;
   criticalities = replicate most_tasks 0;
@@ -57,9 +56,9 @@ unfolding fresh_state
 halted_zeros = set_halted (fresh_state [] [] no_plan) true
 
 -- by the planner's verdict
-unfoldable pub start_of : List ℕ → List ℕ → Plan → Verdict → Step
-start_of tw cw p verdict.Accepted = step answer.Idle (fresh_state tw cw p)
-start_of tw cw p (verdict.Refused k q) = step (answer.Refused k q) halted_zeros
+unfoldable pub start_of : List ℕ → List ℕ → Plan → Result (Unit {0}) Refusal → Step
+start_of tw cw p (Ok _) = step answer.Idle (fresh_state tw cw p)
+start_of tw cw p (Err f) = step (answer.Refused f) halted_zeros
 
 -- the answer of fresh start to any two tables: it follows the planner's answer
 pub record FreshIs (tw cw : List ℕ) (r : Step) : Type 0 where

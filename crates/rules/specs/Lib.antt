@@ -2,6 +2,7 @@
 pub mod Counting
 pub mod Sizes
 pub mod Tables
+pub mod Rows
 pub mod Chains
 pub mod Order
 pub mod Refusals

@@ -1,13 +1,13 @@
 -- What the planner answers. "An accepted planner answers the order, both internal numbers of each task and the common
 -- multiple, with zeros past the last task; a refused planner answers zeros throughout."
-use Rattle.std.specs.Prelude.{◌≡◌, List, ℕ, ◌≤◌, ◌<◌, get_or, length}
+use Rattle.std.specs.Prelude.{◌≡◌, List, ℕ, ◌≤◌, ◌<◌, get_or, length, Result, Ok, Err}
 use Rattle.rules.specs.Sizes.{most_tasks}
 use Rattle.rules.specs.Tables.{count}
 use Rattle.rules.specs.Order.{IsDeadline, IsCriticality, IsMultiple, IsOrder}
 use Rattle.rules.specs.Refusals.{Refusal, Sound}
 use Rattle.rules.specs.declared.Plan.{Plan}
-use Rattle.rules.specs.declared.Verdict.{Verdict}
-use Rattle.rules.specs.declared.Verdict.TheVariants.{Accepted, Refused}
+use Rattle.rules.specs.declared.Refusal as code
+use Rattle.rules.specs.Answers.{number_of, place_of}
 
 -- 32 places, with zeros from place n on
 abbrev pub ZeroFrom : ℕ → List ℕ → Type 0
@@ -38,9 +38,9 @@ pub record Refuses (tw cw : List ℕ) (k p : ℕ) (r : Plan) : Type 0 where
   pub multiple_none : r.multiple ≡ 0
 
 -- by cases on the verdict, with the refusal's number and place
-abbrev pub Judges : List ℕ → List ℕ → Verdict → Plan → Type 0
-Judges tw cw Accepted r = Accepts tw cw r
-Judges tw cw (Refused k p) r = Refuses tw cw k p r
+abbrev pub Judges : List ℕ → List ℕ → Result (Unit {0}) code.Refusal → Plan → Type 0
+Judges tw cw (Ok _) r = Accepts tw cw r
+Judges tw cw (Err f) r = Refuses tw cw (number_of f) (place_of f) r
 
 -- the answer of the planner to any two tables
 abbrev pub PlanIs : List ℕ → List ℕ → Plan → Type 0

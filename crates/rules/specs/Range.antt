@@ -1,7 +1,7 @@
 -- 01, "State out of range means: a count or row outside the sizes or the ranges of 3 and 4, a common multiple outside 1 to
 -- 720,720, a cycle or recorded dispatch cycle not below it, or an order that does not name each task once. What a state
 -- holds past its counts is not judged". A criticality is a byte, a flag and a kind are marks: no state holds a wrong one.
-use Rattle.std.specs.Prelude.{Bool, true, false, not, ◌&&◌, List, ℕ, get_or, eqb, leb, ltb}
+use Rattle.std.specs.Prelude.{Bool, ◌&&◌, ℕ, eqb, leb, ltb}
 use Rattle.rules.specs.Counting.{first_of, all_below}
 use Rattle.rules.specs.Sizes.{most_tasks, most_rows, longest_period, most_multiple}
 use Rattle.rules.specs.Views.{period, deadline, compute, sender, receiver, ordered, dispatch}

@@ -34,7 +34,7 @@ abbrev pub refused : Answer → Bool
 refused (answer.Running i) = false
 refused answer.Idle = false
 refused (answer.Missed i) = false
-refused (answer.Refused n p) = true
+refused (answer.Refused f) = true
 
 -- task i says w
 abbrev pub spoken : (ℕ → List ℕ) → ℕ → ℕ → ℕ → List ℕ

@@ -1,6 +1,6 @@
 -- 01, "Sizes": 1 to 32 tasks, 0 to 64 connections, period 1 to 10,000 ticks, deadline 1 to the period, compute 1 to the
 -- deadline, criticality 0 to 255, enforced flag 0 or 1, common multiple of all periods at most 720,720.
-use Rattle.std.specs.Prelude.{ℕ, ◌+◌, ◌*◌}
+use Rattle.std.specs.Prelude.{ℕ, ◌*◌}
 
 abbrev pub most_tasks : ℕ
 most_tasks = 32

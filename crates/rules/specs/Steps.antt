@@ -1,14 +1,14 @@
 -- 01, "Steps of the executive": the five steps of a tick, completion and the choice, on a state in range that is not halted.
-use Rattle.std.specs.Prelude.{Bool, true, false, not, cond, ◌&&◌, List, ℕ, ◌+◌, ◌%◌, set, eqb, ltb}
+use Rattle.std.specs.Prelude.{Bool, true, not, cond, ◌&&◌, ℕ, ◌+◌, ◌%◌, set, eqb, ltb}
 use Rattle.rules.specs.Counting.{first_of, map_below}
 use Rattle.rules.specs.Views.{idle, waiting, task_in, period, deadline, sender, receiver, undelayed, ordered, phase_of, output, dispatch, buffer, set_tasks, set_outputs, set_dispatches, set_buffers, set_inputs, set_cycle, set_halted}
-use Rattle.rules.specs.Refusals.{nothing_runs}
 use Rattle.rules.specs.declared.Phase.TheVariants as phase
 use Rattle.rules.specs.declared.Task.{Task}
 use Rattle.rules.specs.declared.State.{State}
 use Rattle.rules.specs.declared.Step.{Step}
 use Rattle.rules.specs.declared.Answer.{Answer}
 use Rattle.rules.specs.declared.Answer.TheVariants as answer
+use Rattle.rules.specs.declared.Refusal.TheVariants.{NothingRuns}
 
 abbrev pub step : Answer → State → Step
 step a s = record { answer = a; state = s }
@@ -103,4 +103,4 @@ ended_at s i w =
 
 -- "Then choose as in 4"; 14 is "completion while no task runs"
 unfoldable pub completing : State → ℕ → Step
-completing s w = cond (some_runs s) (chosen (ended_at s (running s) w)) (step (answer.Refused nothing_runs 0) s)
+completing s w = cond (some_runs s) (chosen (ended_at s (running s) w)) (step (answer.Refused NothingRuns) s)

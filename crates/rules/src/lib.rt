@@ -1,8 +1,13 @@
 // The types that all pieces share. The rules themselves are the definitions in specs/.
 #![tactic(auto)]
 
+ghost use Rattle.std.specs.Prelude.{◌≡◌, ◌<◌};
+ghost use Rattle.rules.specs.Answers.{number_of, place_of};
+ghost use Rattle.rules.specs.Tables.{count, rows};
+ghost use Rattle.rules.specs.Rows.{task_row_at, connection_row_at, task_words_of, connection_words_of};
+
 // In the state each task is idle, waiting or started. Idle is first: it is what stands past the last task.
-#[derive(Clone, Copy)]
+#[derive(Clone, Copy, Debug, PartialEq, Eq)]
 pub enum Phase {
     Idle,
     Waiting,
@@ -43,13 +48,78 @@ pub struct State {
     pub halted: bool,
 }
 
+// The list of refusals, each with its place where that can be other than 0.
+#[derive(Clone, Copy, Debug, PartialEq, Eq)]
+pub enum Refusal {
+    TaskWords,
+    ConnectionWords,
+    // The task.
+    TaskValue(usize),
+    // The row.
+    ConnectionValue(usize),
+    Uneven(usize),
+    // The task.
+    Circle(usize),
+    // The row.
+    Raised(usize),
+    Multiple,
+    LittleRoom,
+    // The byte.
+    UnknownMark(usize),
+    CutShort(usize),
+    TooMany(usize),
+    EndWanted(usize),
+    NothingRuns,
+    Halted,
+    OutOfRange,
+}
+
+impl Refusal {
+    pub fn number(self) -> usize
+        ensures { result ≡ number_of self }
+    {
+        match self {
+            Refusal::TaskWords => 1,
+            Refusal::ConnectionWords => 2,
+            Refusal::TaskValue(_) => 3,
+            Refusal::ConnectionValue(_) => 4,
+            Refusal::Uneven(_) => 5,
+            Refusal::Circle(_) => 6,
+            Refusal::Raised(_) => 7,
+            Refusal::Multiple => 8,
+            Refusal::LittleRoom => 9,
+            Refusal::UnknownMark(_) => 10,
+            Refusal::CutShort(_) => 11,
+            Refusal::TooMany(_) => 12,
+            Refusal::EndWanted(_) => 13,
+            Refusal::NothingRuns => 14,
+            Refusal::Halted => 15,
+            Refusal::OutOfRange => 16,
+        }
+    }
+
+    pub fn place(self) -> usize
+        ensures { result ≡ place_of self }
+    {
+        match self {
+            Refusal::TaskValue(task) | Refusal::Circle(task) => task,
+            Refusal::ConnectionValue(row) | Refusal::Uneven(row) | Refusal::Raised(row) => row,
+            Refusal::UnknownMark(byte)
+            | Refusal::CutShort(byte)
+            | Refusal::TooMany(byte)
+            | Refusal::EndWanted(byte) => byte,
+            _ => 0,
+        }
+    }
+}
+
 // The answer of the executive: Running and Missed with a task, Refused with number and place.
-#[derive(Clone, Copy)]
+#[derive(Clone, Copy, Debug, PartialEq, Eq)]
 pub enum Answer {
     Running(usize),
     Idle,
     Missed(usize),
-    Refused(usize, usize),
+    Refused(Refusal),
 }
 
 #[derive(Clone, Copy)]
@@ -58,26 +128,86 @@ pub struct Step {
     pub state: State,
 }
 
-// The answer of the reader: how many tasks and connections it read, or a refusal's number and place.
-#[derive(Clone, Copy)]
-pub enum Reading {
-    Read(usize, usize),
-    Refused(usize, usize),
+// The answer of the reader: how many tasks and connections it read.
+#[derive(Clone, Copy, Debug, PartialEq, Eq)]
+pub struct Counts {
+    pub tasks: usize,
+    pub connections: usize,
 }
 
-// Whether the tables were accepted, or a refusal's number and place.
-#[derive(Clone, Copy)]
-pub enum Verdict {
-    Accepted,
-    Refused(usize, usize),
-}
-
-// The answer of the planner: the order, both internal numbers of each task by table position, and the common multiple.
+// The answer of the planner: whether the tables were accepted, the order, both internal numbers of each task by table position, and the
+// common multiple; zeros throughout where the tables were refused.
 #[derive(Clone, Copy)]
 pub struct Plan {
-    pub verdict: Verdict,
+    pub verdict: Result<(), Refusal>,
     pub order: [u8; 32],
     pub deadlines: [u32; 32],
     pub criticalities: [u8; 32],
     pub multiple: u32,
+}
+
+// The five words of a task, in the table's order.
+#[derive(Clone, Copy, Debug, PartialEq, Eq)]
+pub struct TaskRow {
+    pub period: u16,
+    pub deadline: u16,
+    pub compute: u16,
+    pub criticality: u16,
+    pub flag: u16,
+}
+
+impl TaskRow {
+    // Task i of a table.
+    pub fn at(tasks: &[u16], i: usize) -> TaskRow
+        requires { i < count tasks.now }
+        ensures { result ≡ task_row_at tasks.now i }
+    {
+        TaskRow {
+            period: tasks[i * 5],
+            deadline: tasks[i * 5 + 1],
+            compute: tasks[i * 5 + 2],
+            criticality: tasks[i * 5 + 3],
+            flag: tasks[i * 5 + 4],
+        }
+    }
+
+    pub fn words(self) -> [u16; 5]
+        ensures { result ≡ task_words_of self }
+    {
+        [
+            self.period,
+            self.deadline,
+            self.compute,
+            self.criticality,
+            self.flag,
+        ]
+    }
+}
+
+// The three words of a connection, in the table's order.
+#[derive(Clone, Copy, Debug, PartialEq, Eq)]
+pub struct ConnectionRow {
+    pub sender: u16,
+    pub receiver: u16,
+    pub kind: u16,
+}
+
+impl ConnectionRow {
+    // Row c of a table.
+    pub fn at(connections: &[u16], c: usize) -> ConnectionRow
+        requires { c < rows connections.now }
+        ensures { result ≡ connection_row_at connections.now c }
+    {
+        ConnectionRow {
+            sender: connections[c * 3],
+            receiver: connections[c * 3 + 1],
+            kind: connections[c * 3 + 2],
+        }
+    }
+
+    pub fn words(self) -> [u16; 3]
+        ensures { result ≡ connection_words_of self }
+    {
+        [self.sender, self.receiver, self.kind]
+    }
 }

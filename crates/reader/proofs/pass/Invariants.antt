@@ -6,7 +6,7 @@ use Rattle.reader.proofs.Going.{Going}
 use Rattle.reader.proofs.pass.Given as goal
 
 abbrev pub invariant-loop-row : goal.invariant-loop-row
-invariant-loop-row l = Going l.store l.file l.fn.tasks l.fn.connections l.tasks l.connections l.at l.t l.c
+invariant-loop-row l = Going l.store l.file l.fn.tasks l.fn.connections l.tasks l.connections l.at.byte l.at.read.tasks l.at.read.connections
 
 abbrev pub decreases-loop-row : goal.decreases-loop-row
-decreases-loop-row l = most_records - (l.t + l.c)
+decreases-loop-row l = most_records - (l.at.read.tasks + l.at.read.connections)

@@ -1,15 +1,27 @@
-use Rattle.std.proofs.Common.{arith, refl}
+-- A row is copied where the mark of its task is set.
+use Rattle.std.proofs.Common.{◌≡◌, refl, ap, sym, Bool, not, cond, ◌&&◌, ℕ, get_or, arith, rules}
 use mathlib.Core.Logic.{inl, inr}
-use Rattle.executive.specs.Columns.{delivers_in}
-use Rattle.executive.proofs.Columns.{column-turn}
+use Rattle.rules.specs.Counting.{map_below}
+use Rattle.rules.specs.Views.{sender, output, undelayed, set_buffers}
+use Rattle.rules.specs.Steps.{delivers, delivered}
+use Rattle.rules.specs.declared.State.{State}
+use Rattle.executive.specs.Marks.{marked}
+use Rattle.executive.proofs.Columns.{state-turn}
 use Rattle.executive.proofs.exchange.deliver.Goals as goal
-use Rattle.executive.proofs.exchange.deliver.Goals.{then-undelayed-c, else-undelayed-c}
+use Rattle.executive.proofs.exchange.deliver.Goals.{then-state-c, else-state-c}
 
 pub loop-c-preserved : goal.loop-c-preserved
 loop-c-preserved c =
-    let a = c.args in
-    let l = c.loop-c in (
-      omega arith,
-      column-turn (delivers_in a.senders.now a.undelayed.now a.outputs.now a.due.now) _ _ l.c a.buffers.now l.buffers c.if-undelayed-c.buffers 0 refl l.invariant.1
-          (elim c.if-undelayed-c.branch [ then-undelayed-c w ↦ inl (w.if-undelayed-c.true, w.buffers-is) | else-undelayed-c w ↦ inr (w.if-undelayed-c.false, w.buffers-is) ]),
-    )
+    let s = c.args.state.now in
+    let l = c.loop-c in
+    let marks = c.args.marks.now in
+    let told = c.requires.1.falling.each (sender s l.c) (c.requires.0.sends l.c (omega arith)) in
+    let same : delivers s l.c (get_or s.buffers l.c 0) ≡ cond (not (undelayed s l.c) && marked marks.due (sender s l.c)) (output s (sender s l.c)) (get_or s.buffers l.c 0) =
+    ap (λ (b : Bool). cond (not (undelayed s l.c) && b) (output s (sender s l.c)) (get_or s.buffers l.c 0)) (sym told) in
+    let e : l.state ≡ set_buffers s (map_below (delivers s) l.c s.buffers) = l.invariant in
+    state-turn (λ (z : State). z.buffers) set_buffers s (delivers s) l.c _ _ 0 (λ _. refl) (λ _ _. refl) l.state c.if-state-c.state e (rw e same)
+    (elim c.if-state-c.branch [ then-state-c w ↦ inl (w.if-state-c.true, w.state-is) | else-state-c w ↦ inr (w.if-state-c.false, w.state-is) ])
+
+pub returns : goal.returns
+unfolding delivered
+returns c = search rules

@@ -1,11 +1,9 @@
--- The rows before `c` have their words. The measure is what is left of the rows.
-use Rattle.std.proofs.Common.{◌≡◌, ◌-◌, ◌≤◌}
+-- The rows before `c` have their words.
+use Rattle.std.proofs.Common.{◌≡◌}
 use Rattle.rules.specs.Counting.{map_below}
-use Rattle.executive.specs.Columns.{delivers_in}
+use Rattle.rules.specs.Views.{set_buffers}
+use Rattle.rules.specs.Steps.{delivers}
 use Rattle.executive.proofs.exchange.deliver.Given as goal
 
 abbrev pub invariant-loop-c : goal.invariant-loop-c
-invariant-loop-c l = (l.c ≤ l.m) × (l.buffers ≡ map_below (delivers_in l.senders l.undelayed l.outputs l.due) l.c l.initial.buffers)
-
-abbrev pub decreases-loop-c : goal.decreases-loop-c
-decreases-loop-c l = l.m - l.c
+invariant-loop-c l = let s = l.initial.state in l.state ≡ set_buffers s (map_below (delivers s) l.c s.buffers)

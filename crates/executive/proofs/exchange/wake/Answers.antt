@@ -1,17 +1,15 @@
-use Rattle.std.proofs.Common.{arith, refl}
+use Rattle.std.proofs.Common.{◌≡◌, arith}
 use mathlib.Core.Logic.{inl, inr}
-use Rattle.rules.specs.Views.{task_in}
-use Rattle.rules.specs.declared.Phase.TheVariants as phase
-use Rattle.executive.specs.Columns.{wakes_in}
-use Rattle.executive.proofs.Columns.{column-turn}
+use Rattle.rules.specs.Counting.{map_below}
+use Rattle.rules.specs.Steps.{wakes, records}
+use Rattle.executive.proofs.Copies.{woken, wake-turn}
 use Rattle.executive.proofs.exchange.wake.Goals as goal
-use Rattle.executive.proofs.exchange.wake.Goals.{then-released-i, else-released-i}
+use Rattle.executive.proofs.exchange.wake.Goals.{then-marks-i, else-marks-i}
 
 pub loop-i-preserved : goal.loop-i-preserved
 loop-i-preserved c =
-    let a = c.args in
-    let l = c.loop-i in (
-      omega arith,
-      column-turn (wakes_in a.released.now) _ _ l.i a.tasks l.z c.if-released-i.z (task_in phase.Idle) refl l.invariant.1
-          (elim c.if-released-i.branch [ then-released-i w ↦ inl (w.if-released-i.true, w.z-is) | else-released-i w ↦ inr (w.if-released-i.false, w.z-is) ]),
-    )
+    let s = c.args.state.now in
+    let l = c.loop-i in
+    let e : l.state ≡ woken s (map_below (wakes s) l.i s.tasks) (map_below (records s) l.i s.dispatches) = l.invariant in
+    wake-turn s l.i _ (c.requires.1.freeing.each l.i (omega arith)) l.state c.if-marks-i.state e
+    (elim c.if-marks-i.branch [ then-marks-i w ↦ inl (w.if-marks-i.true, w.state-is) | else-marks-i w ↦ inr (w.if-marks-i.false, w.state-is) ])

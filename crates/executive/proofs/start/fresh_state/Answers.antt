@@ -1,49 +1,42 @@
--- Each column is that of its table.
-use Rattle.std.proofs.Common.{◌≡◌, ℕ, false, List}
-use Rattle.std.specs.Prelude.{replicate}
-use Rattle.rules.specs.Sizes.{most_tasks, most_rows}
+-- Each column is that of its table, place by place.
+use Rattle.std.proofs.Common.{◌≡◌, ap, arith, ℕ}
+use mathlib.Core.Path.{◌∙◌}
 use Rattle.rules.specs.Tables.{count, rows}
-use Rattle.rules.specs.Views.{task_in}
-use Rattle.rules.specs.Fresh.{fresh_state}
-use Rattle.rules.specs.declared.Plan.{Plan}
+use Rattle.rules.specs.Rows.{task_row_at, connection_row_at}
 use Rattle.rules.specs.declared.State.{State}
-use Rattle.rules.specs.declared.Phase.TheVariants as phase
-use Rattle.executive.specs.Start.{TaskColumnsAre, RowColumnsAre}
-use Rattle.executive.specs.declared.start.RowColumns.{RowColumns}
-use Rattle.executive.specs.declared.start.TaskColumns.{TaskColumns}
+use Rattle.executive.proofs.Filled.{filled, filled-none, filled-whole, begun, with_task, with_row, task-filled, row-filled}
 use Rattle.executive.proofs.start.fresh_state.Goals as goal
 
--- the state of the columns, all at rest
-abbrev started : ℕ → ℕ → TaskColumns → RowColumns → Plan → State
-started n m t c p = record {
-  count = n;
-  rows = m;
-  periods = t.periods;
-  deadlines = t.deadlines;
-  computes = t.computes;
-  criticalities = t.criticalities;
-  enforced = t.enforced;
-  senders = c.senders;
-  receivers = c.receivers;
-  undelayed = c.undelayed;
-  order = p.order;
-  multiple = p.multiple;
-  tasks = replicate most_tasks (task_in phase.Idle);
-  outputs = replicate most_tasks 0;
-  dispatches = replicate most_tasks 0;
-  buffers = replicate most_rows 0;
-  inputs = replicate most_rows 0;
-  cycle = 0;
-  ticked = false;
-  halted = false;
-}
+pub loop-i-init : goal.loop-i-init
+loop-i-init c =
+    let tw = c.args.tasks.now in
+    let cw = c.args.connections.now in
+    ap (begun tw cw c.args.plan) c.at_rest-rest.ensures ∙ filled-none tw cw c.args.plan
 
-fresh-is : (tw cw : List ℕ) (t : TaskColumns) (c : RowColumns) (p : Plan) → TaskColumnsAre tw (count tw) t → RowColumnsAre cw (rows cw) c →
-    started (count tw) (rows cw) t c p ≡ fresh_state tw cw p
-unfolding fresh_state
-fresh-is tw cw t c p a b =
-    rw (a.periods_are, a.deadlines_are, a.computes_are, a.criticalities_are, a.enforced_are, b.senders_are, b.receivers_are, b.undelayed_are)
+pub loop-i-preserved : goal.loop-i-preserved
+loop-i-preserved c =
+    let tw = c.args.tasks.now in
+    let cw = c.args.connections.now in
+    let l = c.loop-i in
+    let e : l.state ≡ filled tw cw c.args.plan l.i 0 = l.invariant in
+    rw c.at-row.ensures
+    (ap (λ (z : State). with_task tw cw c.args.plan z l.i (task_row_at tw l.i)) e ∙ task-filled tw cw c.args.plan l.i)
+
+pub loop-c-preserved : goal.loop-c-preserved
+loop-c-preserved c =
+    let tw = c.args.tasks.now in
+    let cw = c.args.connections.now in
+    let l = c.loop-c in
+    let e : l.state ≡ filled tw cw c.args.plan (count tw) l.c = l.invariant in
+    rw c.at-row-in-loop-c.ensures
+    (ap (λ (z : State). with_row tw cw c.args.plan z l.c (connection_row_at cw l.c)) e ∙ row-filled tw cw c.args.plan l.c)
 
 pub returns : goal.returns
 returns c =
-    fresh-is c.args.tasks.now c.args.connections.now c.task_columns-t.result c.row_columns-c.result c.args.p c.task_columns-t.ensures c.row_columns-c.ensures
+    let tw = c.args.tasks.now in
+    let cw = c.args.connections.now in
+    let l = c.loop-c in
+    let begun_rows : c.loop-i.state.rows ≡ rows cw = ap (λ (z : State). z.rows) c.loop-i.invariant in
+    let whole : l.c ≡ rows cw = omega arith in
+    let e : l.state ≡ filled tw cw c.args.plan (count tw) l.c = l.invariant in
+    e ∙ (ap (filled tw cw c.args.plan (count tw)) whole ∙ filled-whole tw cw c.args.plan)

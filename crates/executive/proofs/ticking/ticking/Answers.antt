@@ -1,77 +1,60 @@
--- The marks tell whose deadlines fall and who is dispatched; with them steps 1 to 3 are the rules', and step 5 stands before step 4
--- in the proof, which looks at no cycle.
-use Rattle.std.proofs.Common.{◌≡◌, ℕ, ◌≤◌, Bool, true, false, List, ap, sym, arith, replicate}
+-- Steps 1 to 5 in their order, each the rules' own.
+use Rattle.std.proofs.Common.{◌≡◌, ◌<◌, true, false, ap, sym, ℕ, ltb-true}
 use mathlib.Core.Path.{◌∙◌}
-use Rattle.rules.specs.Steps.{step, chosen, missing}
-use Rattle.rules.specs.Views.{moved, set_cycle, set_halted}
+use Rattle.std.proofs.lemmas.Option.{cond_some}
+use lib.Dec.{ltb}
+use Rattle.rules.specs.Views.{set_halted}
+use Rattle.rules.specs.Steps.{step, missing, delivered, dispatched, chosen, advanced, ticking}
 use Rattle.rules.specs.declared.Answer.TheVariants as answer
-use Rattle.rules.proofs.Steps.{ticking-missed, ticking-on}
-use Rattle.executive.specs.Marks.{any_below, marked}
-use Rattle.executive.specs.Columns.{due_in, released_in, Marks}
-use Rattle.executive.specs.Lent.{to_tick}
-use Rattle.executive.specs.declared.deadlines.Falls.{Falls}
-use Rattle.executive.proofs.Marks.{Tells, puts-tells, any_below-same, or_same}
-use Rattle.executive.proofs.Copies.{missing-is, exchanged_is, advanced-is}
+use Rattle.rules.specs.declared.Step.{Step}
+use Rattle.rules.specs.declared.State.{State}
+use Rattle.rules.proofs.Steps.{delivered-plan, dispatched-plan, chosen-plan, chosen-cycle, ticking-missed}
+use Rattle.rules.proofs.Tests.{cond_false}
+use Rattle.executive.specs.Fits.{Fits}
+use Rattle.executive.proofs.Found.{found-none}
+use Rattle.executive.proofs.Kept.{fits-kept}
 use Rattle.executive.proofs.ticking.ticking.Goals as goal
 
--- the marks, in columns that had none
-module _ (periods deadlines : List ℕ) (n : ℕ) (ticked : Bool) (t : ℕ) (due freed : List Bool) (r : Falls) (few : n ≤ 32)
-    (m : Marks periods deadlines n ticked t (replicate 32 false) (replicate 32 false) due freed r) where
-  due-told : Tells due (due_in periods deadlines ticked t) n
-  due-told = puts-tells (due_in periods deadlines ticked t) n (replicate 32 false) due few m.due_are
+-- the state once the words are copied
+abbrev exchanged : State → State
+exchanged s = dispatched (delivered s)
 
-  freed-told : Tells freed (released_in periods t) n
-  freed-told = puts-tells (released_in periods t) n (replicate 32 false) freed few m.released_are
+exchanged-fits : (s : State) → Fits s → Fits (exchanged s)
+exchanged-fits s f = fits-kept (delivered s) _ (dispatched-plan (delivered s)) (fits-kept s _ (delivered-plan s) f)
 
-  some-due : r.due ≡ any_below (marked due) n
-  some-due = m.some_due ∙ any_below-same (due_in periods deadlines ticked t) (marked due) n (λ i h. sym (due-told i h))
+-- step 5 behind step 4
+abbrev after : Step → Step
+after r = step r.answer (advanced r.state)
 
-  some-freed : r.released ≡ any_below (marked freed) n
-  some-freed = m.some_released ∙ any_below-same (released_in periods t) (marked freed) n (λ i h. sym (freed-told i h))
+on : (s : State) → ltb (missing s) s.count ≡ false → after (chosen (exchanged s)) ≡ ticking s
+unfolding ticking
+on s e = sym (cond_false (ltb (missing s) s.count) _ _ e)
 
--- step 1
-pub first_missing-i-requires : goal.first_missing-i-requires
-first_missing-i-requires c =
-    let a = c.args in
-    let m = c.mark-any in
-    (c.requires.few, some-due a.periods.now a.deadlines.now a.n a.ticked a.t m.new.due m.new.released m.result c.requires.few m.ensures)
+-- steps 2 to 4 change neither the cycle nor the common multiple
+cycle-below : (s : State) → s.cycle < s.multiple → (chosen (exchanged s)).state.cycle < (chosen (exchanged s)).state.multiple
+unfolding delivered dispatched
+cycle-below s h =
+    let same = ap (λ (z : State). z.multiple) (chosen-plan (exchanged s)) in
+    rw (chosen-cycle (exchanged s), ← same) h
 
-pub returns-then-i-n : goal.returns-then-i-n
-returns-then-i-n c = λ z.
-    let a = c.args in
-    let m = c.mark-any in
-    let s = to_tick a.n a.m a.u a.periods.now a.deadlines.now a.senders.now a.receivers.now a.undelayed.now a.order.now a.outputs.now z a.tasks a.dispatches.now a.buffers.now a.inputs.now a.t a.ticked false in
-    let told = due-told a.periods.now a.deadlines.now a.n a.ticked a.t m.new.due m.new.released m.result c.requires.few m.ensures in
-    let e = c.first_missing-i.ensures ∙ missing-is s m.new.due told in
-    ap (λ (i : ℕ). step (answer.Missed i) (set_halted s true)) e ∙ sym (ticking-missed s (rw e at c.if-i-n.true))
+pub returns-in-Some : goal.returns-in-Some
+returns-in-Some c =
+    let s = c.args.state.now in
+    let q = cond_some (ltb (missing s) s.count) (missing s) c.in-Some.task (sym c.missing_task.ensures ∙ c.in-Some.is) in
+    ap (λ (i : ℕ). step (answer.Missed i) (set_halted s true)) (sym q.1) ∙ sym (ticking-missed s (ltb-true _ _ q.0))
 
--- steps 2 and 3
-pub exchange-woken-requires : goal.exchange-woken-requires
-exchange-woken-requires c =
-    let a = c.args in
-    let m = c.mark-any in
-    let x = c.requires in
-    let due = some-due a.periods.now a.deadlines.now a.n a.ticked a.t m.new.due m.new.released m.result x.few m.ensures in
-    let freed = some-freed a.periods.now a.deadlines.now a.n a.ticked a.t m.new.due m.new.released m.result x.few m.ensures in
-    (x.few, x.few_rows, x.sends, x.receives, or_same _ _ _ _ due freed)
+pub choose-answer-requires : goal.choose-answer-requires
+choose-answer-requires c = rw c.exchange.ensures (exchanged-fits c.args.state.now c.requires.0)
 
--- all five
+pub advance-requires : goal.advance-requires
+advance-requires c =
+    let s = c.args.state.now in
+    let same = ap (λ (r : Step). r.state) (c.choose-answer.ensures ∙ ap chosen c.exchange.ensures) in
+    rw same (cycle-below s c.requires.1)
+
 pub returns : goal.returns
-returns c = λ z.
-    let a = c.args in
-    let m = c.mark-any in
-    let x = c.requires in
-    let s = to_tick a.n a.m a.u a.periods.now a.deadlines.now a.senders.now a.receivers.now a.undelayed.now a.order.now a.outputs.now z a.tasks a.dispatches.now a.buffers.now a.inputs.now a.t a.ticked false in
-    let falling = due-told a.periods.now a.deadlines.now a.n a.ticked a.t m.new.due m.new.released m.result x.few m.ensures in
-    let freeing = freed-told a.periods.now a.deadlines.now a.n a.ticked a.t m.new.due m.new.released m.result x.few m.ensures in
-    let missed = c.first_missing-i.ensures ∙ missing-is s m.new.due falling in
-    let on : s.count ≤ missing s = omega (arith, missed, c.if-i-n.false) in
-    let w = c.exchange-woken in
-    let exchanged = moved s w.result s.outputs w.new.dispatches w.new.buffers w.new.inputs s.cycle s.ticked s.halted in
-    let same =
-    exchanged_is s m.new.due m.new.released (record { sends = x.sends; receives = x.receives; falling = falling; freeing = freeing })
-    w.result w.new.dispatches w.new.buffers w.new.inputs
-    w.ensures.buffers_after w.ensures.inputs_after w.ensures.dispatches_after w.ensures.value
-    in
-    c.run-c.ensures (set_cycle exchanged c.after-next.result true)
-    ∙ (ap chosen (advanced-is s exchanged c.after-next.result same c.after-next.ensures) ∙ sym (ticking-on s on))
+returns c =
+    let s = c.args.state.now in
+    let none = found-none (ltb (missing s) s.count) (missing s) (sym c.missing_task.ensures ∙ c.in_default.is) in
+    ap (step c.choose-answer.result) c.advance.ensures
+    ∙ (ap after (c.choose-answer.ensures ∙ ap chosen c.exchange.ensures) ∙ on s none)
