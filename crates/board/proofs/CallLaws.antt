@@ -11,6 +11,7 @@ use Rattle.rules.specs.Steps.{step}
 use Rattle.rules.specs.declared.State.{State}
 use Rattle.rules.specs.declared.Step.{Step}
 use Rattle.rules.specs.declared.Answer.{Answer}
+use Rattle.rules.specs.declared.Refusal.{Refusal}
 use Rattle.rules.specs.declared.Answer.TheVariants as answer
 use Rattle.rules.proofs.Tests.{by_test}
 use Rattle.rules.proofs.Steps.{SamePlan}
@@ -53,11 +54,11 @@ calls_to call R old r new h w =
     (λ e. let v = rw e at w in record { answer = rw e v.answer; words = rw e v.words })
 
 -- a call that says its answer and leaves its state, unless it is refused
-pub not_refused : (a : Answer) → ((n p : ℕ) → a ≡ answer.Refused n p → ⊥) → refused a ≡ false
+pub not_refused : (a : Answer) → ((f : Refusal) → a ≡ answer.Refused f → ⊥) → refused a ≡ false
 not_refused (answer.Running i) h = refl
 not_refused answer.Idle h = refl
 not_refused (answer.Missed i) h = refl
-not_refused (answer.Refused n p) h = absurd (h n p refl)
+not_refused (answer.Refused f) h = absurd (h f refl)
 
 pub called : (R : State → Answer → State → Type 0) (old : List ℕ) (r : ℕ) (new : List ℕ) (s : State) (a : Answer) (z : State) →
     (encodes old ≡ true) × (s ≡ state_from old) → R s a z → r ≡ coded (answer_says a) → new ≡ cond (refused a) old (stored_in old z) →

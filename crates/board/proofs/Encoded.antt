@@ -5,15 +5,15 @@ use mathlib.Core.List.{List}
 use Prim.Native.Nat.{ℕ, ◌+◌, ◌*◌, ◌≤◌}
 use lib.ListN.{get_or, length}
 use lib.Dec.{leb}
-use borrow.Author.Tests.{leb-true, le-leb, ltb-true, lt-ltb}
+use borrow.Author.Tests.{leb-true, le-leb}
 use Rattle.std.proofs.Common.{Fits, w32}
 use Rattle.std.proofs.Math.Facts.{Fits-lt-pow}
 use Rattle.rules.specs.Sizes.{most_tasks, most_rows, task_width, row_width}
 use Rattle.rules.proofs.Tests.{and_left, and_right, and_both}
-use Rattle.rules.proofs.Counting.{all_below-at, all_below-all}
 use Rattle.board.specs.Layout.{marks_at, tasks_at, rows_at, order_at, phases_at, state_size}
 use Rattle.board.specs.Widths.{wholes, times, bytes, marks, phases}
-use Rattle.board.specs.Columns.{word_at, fits_at, below, AllBelow}
+use Rattle.board.specs.Columns.{below, AllBelow}
+use Rattle.board.proofs.Turns.{low_all, all_low}
 use Rattle.board.specs.StateWords.{tasks_fit, rows_fit, runs_fit, head_fits, words_fit, encodes}
 
 -- each word fits its place
@@ -29,14 +29,6 @@ pub record Fitted (ws : List ℕ) : Type 0 where
   pub undelayed : AllBelow ws (rows_at + 2) row_width marks most_rows
   pub order : AllBelow ws order_at 1 bytes most_tasks
   pub tasks : AllBelow ws phases_at 1 phases most_tasks
-
--- the test of a column says so
-module _ (ws : List ℕ) (start apart limit n : ℕ) where
-  low_all : below ws start apart limit n ≡ true → AllBelow ws start apart limit n
-  low_all e k h = ltb-true (word_at ws start apart k) limit (all_below-at (fits_at ws start apart limit) n k e h)
-
-  all_low : AllBelow ws start apart limit n → below ws start apart limit n ≡ true
-  all_low h = all_below-all (fits_at ws start apart limit) n (λ k b. lt-ltb (word_at ws start apart k) limit (h k b))
 
 pub fitted_fit : (ws : List ℕ) → Fitted ws → words_fit ws ≡ true
 fitted_fit ws w =

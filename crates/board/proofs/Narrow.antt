@@ -9,7 +9,8 @@ use lib.ListN.{length, take, length-take}
 use lib.Dec.{ltb}
 use borrow.Author.Tests.{ltb-true}
 use Rattle.rules.specs.Sizes.{most_tasks, most_rows, most_task_words, most_row_words}
-use Rattle.rules.specs.Answers.{Told, told, reading_says, answer_says, verdict_says}
+use Rattle.std.specs.Prelude.{Result, Ok, Err}
+use Rattle.rules.specs.Answers.{Told, told, number_of, place_of, reading_says, read_says, answer_says, verdict_says}
 use Rattle.rules.specs.Views.{set_halted}
 use Rattle.rules.specs.Steps.{step, missing, delivered, dispatched, some_runs, running, chosen, advanced, ticking, ended_at, completing}
 use Rattle.rules.specs.Range.{in_range}
@@ -17,13 +18,12 @@ use Rattle.rules.specs.Calls.{judged, tick_of, complete_of}
 use Rattle.rules.specs.Tables.{count, rows}
 use Rattle.rules.specs.Plan.{Judges, PlanIs}
 use Rattle.rules.specs.Fresh.{fresh_state, halted_zeros, start_of, FreshIs}
-use Rattle.rules.specs.File.{read_of, reading_of, contents_of}
-use Rattle.rules.specs.Refusals.{Refusal, little_room, nothing_runs, is_halted, out_of_range}
-use Rattle.rules.specs.declared.Reading.{Reading}
-use Rattle.rules.specs.declared.Reading.TheVariants as reading
+use Rattle.rules.specs.File.{Reading, read_of, reading_of, contents_of}
+use Rattle.rules.specs.Refusals.{Refusal, little_room}
+use Rattle.rules.specs.declared.Counts.{Counts}
+use Rattle.rules.specs.declared.Refusal as code
+use Rattle.rules.specs.declared.Refusal.TheVariants.{NothingRuns, Halted, OutOfRange}
 use Rattle.rules.specs.declared.Plan.{Plan}
-use Rattle.rules.specs.declared.Verdict.{Verdict}
-use Rattle.rules.specs.declared.Verdict.TheVariants as verdict
 use Rattle.rules.specs.declared.State.{State}
 use Rattle.rules.specs.declared.Step.{Step}
 use Rattle.rules.specs.declared.Answer.{Answer}
@@ -55,10 +55,10 @@ coded-one a b p q e =
 
 -- the answer to a file depends on its first 643 bytes, and a refusal stands within them or at their end
 contents_narrow : (file : List ℕ) (a : Reading) → reading_of 0 0 (contents_of file) ≡ a → Narrow (reading_says a)
-contents_narrow file (reading.Read t c) e =
+contents_narrow file (Reading.Read t c) e =
     let w = contents_counts file t c e in
     narrow 5 t c (omega arith) (omega (arith, w.few_tasks)) (omega (arith, w.few_rows))
-contents_narrow file (reading.Refused n p) e =
+contents_narrow file (Reading.Refused n p) e =
     let w = contents_ends (take decisive file) n p (rw (contents_front decisive file (omega arith)) e) in
     narrow 0 n p (omega arith) (omega (arith, w.1)) (omega (arith, w.2, length-take decisive file))
 
@@ -66,20 +66,20 @@ asked-narrow : (file tasks connections : List ℕ) → Narrow (reading_says (ask
 unfolding read_of
 asked-narrow file tasks connections =
     cond_by (λ (a : Reading). Narrow (reading_says a)) (ltb (length tasks) most_task_words || ltb (length connections) most_row_words)
-    (reading.Refused little_room 0) (reading_of 0 0 (contents_of file))
+    (Reading.Refused little_room 0) (reading_of 0 0 (contents_of file))
     (λ _. narrow 0 9 0 (omega arith) (omega arith) (omega arith))
     (λ _. contents_narrow file (reading_of 0 0 (contents_of file)) refl)
 
-pub read_narrow : (file tasks connections : List ℕ) (r : Reading) (tasks' connections' : List ℕ) →
-    ReadIs file tasks connections r tasks' connections' → Narrow (reading_says r)
+pub read_narrow : (file tasks connections : List ℕ) (r : Result Counts code.Refusal) (tasks' connections' : List ℕ) →
+    ReadIs file tasks connections r tasks' connections' → Narrow (read_says r)
 read_narrow file tasks connections r tasks' connections' w = rw w.told (asked-narrow file tasks connections)
 
 -- a step's answer
 abbrev pub StepNarrow : Step → Type 0
 StepNarrow x = Narrow (answer_says x.answer)
 
-refusal_narrow : (s : State) (n : ℕ) → n < 256 → StepNarrow (step (answer.Refused n 0) s)
-refusal_narrow s n h = narrow 0 n 0 (omega arith) h (omega arith)
+refusal_narrow : (s : State) (f : code.Refusal) → number_of f < 256 → place_of f < 65536 → StepNarrow (step (answer.Refused f) s)
+refusal_narrow s f a b = narrow 0 (number_of f) (place_of f) (omega arith) a b
 
 -- the running task is one of at most 32
 chosen-narrow : (s : State) → NamesTasks s → s.count ≤ most_tasks → StepNarrow (chosen s)
@@ -103,15 +103,15 @@ ticking-narrow s r =
 completing-narrow : (s : State) (w : ℕ) → Ranged s → StepNarrow (completing s w)
 unfolding completing
 completing-narrow s w r =
-    cond_by StepNarrow (some_runs s) (chosen (ended_at s (running s) w)) (step (answer.Refused nothing_runs 0) s)
+    cond_by StepNarrow (some_runs s) (chosen (ended_at s (running s) w)) (step (answer.Refused NothingRuns) s)
     (λ _. planned-narrow s (ended_at s (running s) w) r (ended_at-plan s (running s) w))
-    (λ _. refusal_narrow s nothing_runs (omega arith))
+    (λ _. refusal_narrow s NothingRuns (omega arith) (omega arith))
 
 judged-narrow : (ranged halted : Bool) (s : State) (x : Step) → (ranged ≡ true → StepNarrow x) → StepNarrow (judged ranged halted s x)
 unfolding judged
-judged-narrow true true s x go = refusal_narrow s is_halted (omega arith)
+judged-narrow true true s x go = refusal_narrow s Halted (omega arith) (omega arith)
 judged-narrow true false s x go = go refl
-judged-narrow false halted s x go = refusal_narrow s out_of_range (omega arith)
+judged-narrow false halted s x go = refusal_narrow s OutOfRange (omega arith) (omega arith)
 
 pub tick_narrow : (s : State) → StepNarrow (tick_of s)
 tick_narrow s = judged-narrow (in_range s) s.halted s (ticking s) (λ e. ticking-narrow s (in_range-ranged s e))
@@ -145,29 +145,29 @@ module _ (tw cw : List ℕ) where
   refusal_of_tables : (k p : ℕ) → Refusal tw cw k p → Narrow (told 0 k p)
   refusal_of_tables k p w = let b = place_low k p w in narrow 0 k p (omega arith) (omega (arith, b.0)) (omega (arith, b.1))
 
-  judges_narrow : (v : Verdict) (r : Plan) → Judges tw cw v r → Narrow (verdict_says v)
-  judges_narrow verdict.Accepted r w = narrow 4 0 0 (omega arith) (omega arith) (omega arith)
-  judges_narrow (verdict.Refused k p) r w = refusal_of_tables k p w.because
+  judges_narrow : (v : Result (Unit {0}) code.Refusal) (r : Plan) → Judges tw cw v r → Narrow (verdict_says v)
+  judges_narrow (Ok _) r w = narrow 4 0 0 (omega arith) (omega arith) (omega arith)
+  judges_narrow (Err f) r w = refusal_of_tables (number_of f) (place_of f) w.because
 
   pub plan_narrow : (r : Plan) → PlanIs tw cw r → Narrow (verdict_says r.verdict)
   plan_narrow r w = judges_narrow r.verdict r w
 
   -- a fresh start follows its plan
-  start-narrow : (v : Verdict) (r : Plan) → Judges tw cw v r → StepNarrow (start_of tw cw r v)
+  start-narrow : (v : Result (Unit {0}) code.Refusal) (r : Plan) → Judges tw cw v r → StepNarrow (start_of tw cw r v)
   unfolding start_of
-  start-narrow verdict.Accepted r w = narrow 2 0 0 (omega arith) (omega arith) (omega arith)
-  start-narrow (verdict.Refused k p) r w = refusal_of_tables k p w.because
+  start-narrow (Ok _) r w = narrow 2 0 0 (omega arith) (omega arith) (omega arith)
+  start-narrow (Err f) r w = refusal_of_tables (number_of f) (place_of f) w.because
 
   pub fresh_narrow : (r : Step) → FreshIs tw cw r → StepNarrow r
   fresh_narrow r w = rw w.starts.answer (start-narrow w.plan.verdict w.plan w.planned)
 
   -- and its counts are words
-  start-counted : (v : Verdict) (r : Plan) → Judges tw cw v r → Counted (start_of tw cw r v).state
+  start-counted : (v : Result (Unit {0}) code.Refusal) (r : Plan) → Judges tw cw v r → Counted (start_of tw cw r v).state
   unfolding start_of fresh_state halted_zeros
-  start-counted verdict.Accepted r w =
+  start-counted (Ok _) r w =
       let l = lengths_of tw cw w.sound in
       record { count_fits = omega (arith, l.tasks_most); rows_fit = omega (arith, l.rows_most) }
-  start-counted (verdict.Refused k p) r w = record { count_fits = omega arith; rows_fit = omega arith }
+  start-counted (Err f) r w = record { count_fits = omega arith; rows_fit = omega arith }
 
   pub fresh_counted : (r : Step) → FreshIs tw cw r → Counted r.state
   fresh_counted r w = rw w.starts.state (start-counted w.plan.verdict w.plan w.planned)

@@ -5,7 +5,7 @@ use mathlib.Core.List.{List}
 use Prim.Native.Nat.{ℕ}
 use lib.ListN.{length}
 use lib.Dec.{leb}
-use Rattle.rules.specs.Answers.{verdict_says, reading_says}
+use Rattle.rules.specs.Answers.{verdict_says, read_says}
 use Rattle.rules.specs.declared.State.{State}
 use Rattle.rules.specs.declared.Step.{Step}
 use Rattle.rules.specs.declared.Plan.{Plan}
@@ -22,7 +22,7 @@ pub reads_one : (file tasks connections : List ℕ) (r q : ℕ) (t u c d : List 
     ReadsTo file tasks connections q u d → (r ≡ q) × (t ≡ u) × (c ≡ d)
 reads_one file tasks connections r q t u c d a b =
     let w = read_one file tasks connections a.reading b.reading t u c d a.reads b.reads in
-    (a.answer ∙ ap (λ x. coded (reading_says x)) w.0 ∙ sym b.answer, w.1, w.2)
+    (a.answer ∙ ap (λ x. coded (read_says x)) w.0 ∙ sym b.answer, w.1, w.2)
 
 module _ (tw cw old : List ℕ) (r q : ℕ) (new next : List ℕ) where
   none_one : NoRoom old r new → NoRoom old q next → (r ≡ q) × (new ≡ next)

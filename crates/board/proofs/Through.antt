@@ -21,8 +21,8 @@ use Rattle.rules.specs.Runs.{refused}
 use Rattle.rules.specs.declared.State.{State}
 use Rattle.rules.specs.declared.Step.{Step}
 use Rattle.rules.specs.declared.Plan.{Plan}
-use Rattle.rules.specs.declared.Verdict.{Verdict}
-use Rattle.rules.specs.declared.Verdict.TheVariants as verdict
+use Rattle.rules.specs.declared.Refusal as code
+use Rattle.std.specs.Prelude.{Result, Ok, Err}
 use Rattle.rules.proofs.Tests.{by_test, lt_or, cond_true, cond_false}
 use Rattle.rules.proofs.Counting.{column-at, column-past, column-length}
 use Rattle.rules.proofs.Refusals.{tables_of}
@@ -159,10 +159,10 @@ zeros_fitting =
     (fresh_fitting [] [] no_plan (omega arith) (omega arith) (λ i h. absurd (omega arith)) (λ c h. absurd (omega arith)) refl
     (low_column (λ _. 0) 0 most_tasks bytes (omega arith) (omega arith) (λ k h. absurd (omega arith))))
 
-judged-fitting : (tw cw : List ℕ) (v : Verdict) (p : Plan) → Judges tw cw v p → Fitting (start_of tw cw p v).state
+judged-fitting : (tw cw : List ℕ) (v : Result (Unit {0}) code.Refusal) (p : Plan) → Judges tw cw v p → Fitting (start_of tw cw p v).state
 unfolding start_of
-judged-fitting tw cw verdict.Accepted p a = accepted_fitting tw cw p a
-judged-fitting tw cw (verdict.Refused k q) p a = zeros_fitting
+judged-fitting tw cw (Ok _) p a = accepted_fitting tw cw p a
+judged-fitting tw cw (Err f) p a = zeros_fitting
 
 pub fresh_through : (tw cw old : List ℕ) (r : ℕ) (new : List ℕ) (w : StartsTo tw cw old r new) → Through w.step (drop state_size old) r new
 fresh_through tw cw old r new w =

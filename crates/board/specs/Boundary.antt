@@ -1,6 +1,6 @@
 -- What each of the five functions of the boundary promises: the number that it answers, and what stands in every lent word afterwards.
-use Rattle.std.specs.Prelude.{◌≡◌, Bool, true, false, cond, List, ℕ, length, leb}
-use Rattle.rules.specs.Answers.{Told, answer_says, verdict_says, reading_says}
+use Rattle.std.specs.Prelude.{◌≡◌, Bool, true, false, cond, Result, List, ℕ, length, leb}
+use Rattle.rules.specs.Answers.{Told, answer_says, verdict_says, read_says}
 use Rattle.rules.specs.Plan.{PlanIs}
 use Rattle.rules.specs.Fresh.{FreshIs}
 use Rattle.rules.specs.Runs.{refused}
@@ -8,7 +8,8 @@ use Rattle.rules.specs.declared.State.{State}
 use Rattle.rules.specs.declared.Step.{Step}
 use Rattle.rules.specs.declared.Answer.{Answer}
 use Rattle.rules.specs.declared.Plan.{Plan}
-use Rattle.rules.specs.declared.Reading.{Reading}
+use Rattle.rules.specs.declared.Counts.{Counts}
+use Rattle.rules.specs.declared.Refusal.{Refusal}
 use Rattle.reader.specs.Read.{ReadIs}
 use Rattle.board.specs.Codes.{coded, no_room, no_state, Narrow}
 use Rattle.board.specs.Layout.{plan_size, state_size}
@@ -17,9 +18,9 @@ use Rattle.board.specs.StateWords.{state_from, encodes, stored_in, table_words}
 
 -- read: the reader's answer and tables
 pub record ReadsTo (file tasks connections : List ℕ) (r : ℕ) (tasks' connections' : List ℕ) : Type 0 where
-  pub reading : Reading
+  pub reading : Result Counts Refusal
   pub reads : ReadIs file tasks connections reading tasks' connections'
-  pub answer : r ≡ coded (reading_says reading)
+  pub answer : r ≡ coded (read_says reading)
 
 -- too few words lent for a plan or a state: refused 9 at place 0, and nothing is written
 pub record NoRoom (old : List ℕ) (r : ℕ) (new : List ℕ) : Type 0 where

@@ -1,13 +1,13 @@
 // An answer as one number: its kind, 256 times its number and 65,536 times its value.
 ghost use Rattle.std.specs.Prelude.{◌≡◌, ℕ};
-ghost use Rattle.rules.specs.Answers.{Told, told, answer_says, verdict_says, reading_says};
+ghost use Rattle.rules.specs.Answers.{Told, told, refusal_says, answer_says, verdict_says, read_says};
 ghost use Rattle.board.specs.Codes.{coded, kind_number, Narrow};
 
-use rules::{Answer, Reading, Verdict};
+use rules::{Answer, Counts, Refusal};
 
-// The kinds, by the numbers of the C interface.
+// The kinds, with the numbers that the C interface has for them.
 #[derive(Clone, Copy, Debug, PartialEq, Eq)]
-pub(crate) enum Kind {
+enum Kind {
     Refused = 0,
     Running = 1,
     Idle = 2,
@@ -16,7 +16,7 @@ pub(crate) enum Kind {
     Read = 5,
 }
 
-pub(crate) fn code(kind: Kind, number: usize, value: usize) -> u64
+fn code(kind: Kind, number: usize, value: usize) -> u64
     requires { Narrow (told (kind_number kind) number value) }
     ensures { result ≡ coded (told (kind_number kind) number value) }
 {
@@ -32,12 +32,20 @@ pub(crate) trait Coded {
         ensures { result ≡ coded (says self) };
 }
 
+impl Coded for Refusal {
+    ghost says = { refusal_says };
+
+    fn code(self) -> u64 {
+        code(Kind::Refused, self.number(), self.place())
+    }
+}
+
 impl Coded for Answer {
     ghost says = { answer_says };
 
     fn code(self) -> u64 {
         match self {
-            Answer::Refused(number, place) => code(Kind::Refused, number, place),
+            Answer::Refused(refusal) => refusal.code(),
             Answer::Running(task) => code(Kind::Running, 0, task),
             Answer::Idle => code(Kind::Idle, 0, 0),
             Answer::Missed(task) => code(Kind::Missed, 0, task),
@@ -45,24 +53,26 @@ impl Coded for Answer {
     }
 }
 
-impl Coded for Verdict {
+// What the planner answers.
+impl Coded for Result<(), Refusal> {
     ghost says = { verdict_says };
 
     fn code(self) -> u64 {
         match self {
-            Verdict::Refused(number, place) => code(Kind::Refused, number, place),
-            Verdict::Accepted => code(Kind::Accepted, 0, 0),
+            Ok(()) => code(Kind::Accepted, 0, 0),
+            Err(refusal) => refusal.code(),
         }
     }
 }
 
-impl Coded for Reading {
-    ghost says = { reading_says };
+// What the reader answers.
+impl Coded for Result<Counts, Refusal> {
+    ghost says = { read_says };
 
     fn code(self) -> u64 {
         match self {
-            Reading::Refused(number, place) => code(Kind::Refused, number, place),
-            Reading::Read(tasks, connections) => code(Kind::Read, tasks, connections),
+            Ok(read) => code(Kind::Read, read.tasks, read.connections),
+            Err(refusal) => refusal.code(),
         }
     }
 }

@@ -165,10 +165,14 @@ pub(crate) fn column<T: Element, const N: usize>(
     ensures { SomeIff result (AllBelow words.now start apart T.limit N) (taken T.value_of words.now start apart N (replicate N T.BLANK)) }
 {
     let mut column = [T::BLANK; N];
+    // Every word is read, and the test comes last: a loop that may end early takes twice the instructions.
+    let mut fit = true;
     for k in 0..N {
-        column[k] = T::from_word(words[start + k * apart])?;
+        let element = T::from_word(words[start + k * apart]);
+        fit &= element.is_some();
+        column[k] = element.unwrap_or(T::BLANK);
     }
-    Some(column)
+    fit.then_some(column)
 }
 
 // Puts a column into the words, side by side.

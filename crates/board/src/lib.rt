@@ -12,8 +12,8 @@ ghost use Rattle.std.specs.Fn.{FnOnceReturnsAtMut};
 ghost use Rattle.rules.specs.Calls.{tick_of, complete_of};
 ghost use Rattle.board.specs.Boundary.{ReadsTo, PlanTold, FreshTold, CallsTo, CallsBy, Keeps};
 
-use answers::{Coded, Kind, code};
-use rules::{Answer, State};
+use answers::Coded;
+use rules::{Answer, Refusal, State};
 
 #[unsafe(no_mangle)]
 pub extern "C" fn otravelun_read(file: &[u8], tasks: &mut [u16], connections: &mut [u16]) -> u64
@@ -27,7 +27,7 @@ pub extern "C" fn otravelun_plan(tasks: &[u16], connections: &[u16], plan: &mut 
     ensures { PlanTold tasks.now connections.now plan.old result plan.new }
 {
     if plan.len() < layout::PLAN_WORDS {
-        return code(Kind::Refused, 9, 0);
+        return Refusal::LittleRoom.code();
     }
     let p = planner::plan(tasks, connections);
     encoding::put_plan(plan, &p);
@@ -39,7 +39,7 @@ pub extern "C" fn otravelun_fresh(tasks: &[u16], connections: &[u16], state: &mu
     ensures { FreshTold tasks.now connections.now state.old result state.new }
 {
     if state.len() < layout::STATE_WORDS {
-        return code(Kind::Refused, 9, 0);
+        return Refusal::LittleRoom.code();
     }
     let start = executive::fresh(tasks, connections);
     encoding::put_state(state, &start.state);
@@ -53,11 +53,11 @@ fn called<F: FnOnce(&mut State) -> Answer>(words: &mut [u32], call: F) -> u64
     ensures { CallsBy (FnOnceReturnsAtMut F.FnOnce call) words.old result words.new }
 {
     let Some(mut state) = decoding::decode(words) else {
-        return code(Kind::Refused, 16, 0);
+        return Refusal::OutOfRange.code();
     };
     let answer = call(&mut state);
     let told = answer.code();
-    if let Answer::Refused(_, _) = answer {
+    if let Answer::Refused(_) = answer {
         return told;
     }
     encoding::put_changes(words, &state);
@@ -68,20 +68,12 @@ fn called<F: FnOnce(&mut State) -> Answer>(words: &mut [u32], call: F) -> u64
 pub extern "C" fn otravelun_tick(state: &mut [u32]) -> u64
     ensures { CallsTo tick_of state.old result state.new }
 {
-    called(state, |s: &mut State| {
-        let x = executive::tick(*s);
-        *s = x.state;
-        x.answer
-    })
+    called(state, executive::tick)
 }
 
 #[unsafe(no_mangle)]
 pub extern "C" fn otravelun_complete(state: &mut [u32], word: u32) -> u64
     ensures { CallsTo (λ s. complete_of s word) state.old result state.new }
 {
-    called(state, |s: &mut State| {
-        let x = executive::complete(*s, word);
-        *s = x.state;
-        x.answer
-    })
+    called(state, |state: &mut State| executive::complete(state, word))
 }
