@@ -52,7 +52,7 @@ fn chains_from(connections: &[u16], n: u8, i: usize) -> [u8; 32]
     best
 }
 
-// The square of the chains between n tasks.
+// The square of the chains between n tasks, by value: memory is fixed.
 pub(crate) fn square(connections: &[u16], n: u8) -> [[u8; 32]; 32]
     requires { Named connections.now × (n ≤ most_tasks) }
     ensures { Square (Link connections.now) n result }

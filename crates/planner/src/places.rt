@@ -46,12 +46,14 @@ pub(crate) struct Tables<'a> {
 }
 
 impl Tables<'_> {
+    // How many tasks there are.
     pub(crate) fn count(self) -> usize
         ensures { result ≡ count self.entry.tasks.now }
     {
         self.tasks.len() / 5
     }
 
+    // How many rows there are.
     fn rows(self) -> usize
         ensures { result ≡ rows self.entry.connections.now }
     {
@@ -83,6 +85,7 @@ impl Tables<'_> {
         uneven(from, to)
     }
 
+    // Whether row c is undelayed, from a less critical task with its flag 0 to a more critical one.
     fn is_raised(self, c: usize) -> bool
         requires { Joined self c }
         ensures { result ≡ raised_at self.entry c }
@@ -117,7 +120,7 @@ impl Tables<'_> {
         (0..self.rows()).find(|c| self.is_uneven(*c))
     }
 
-    // Where 7 stands: the first undelayed row from a less critical task, with its flag 0, to a more critical one.
+    // Where 7 stands: the first undelayed row from a less critical task with its flag 0 to a more critical one.
     pub(crate) fn first_raised(self) -> Option<usize>
         requires { AllJoined self }
         ensures { IsFirst (raised_at self.entry) (rows self.entry.connections.now) result }
