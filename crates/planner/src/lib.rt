@@ -49,11 +49,11 @@ fn check_lengths(tables: Tables) -> Result<(), Refusal>
 {
     let words = tables.tasks.len();
     if words % 5 != 0 || words == 0 || 160 < words {
-        return Err(Refusal::TaskWords);
+        return Err(Refusal::TaskTable);
     }
     let words = tables.connections.len();
     if words % 3 != 0 || 192 < words {
-        return Err(Refusal::ConnectionWords);
+        return Err(Refusal::ConnectionTable);
     }
     Ok(())
 }

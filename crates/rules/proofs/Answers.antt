@@ -11,7 +11,7 @@ use Rattle.rules.specs.Answers.{Told, number_of, place_of, answer_says, verdict_
 use Rattle.rules.specs.File.{Reading}
 use Rattle.rules.specs.Steps.{step}
 use Rattle.rules.specs.declared.Refusal.{Refusal}
-use Rattle.rules.specs.declared.Refusal.TheVariants.{TaskWords, ConnectionWords, TaskValue, ConnectionValue, Uneven, Circle, Raised, Multiple, LittleRoom, UnknownMark, CutShort, TooMany, EndWanted, NothingRuns, Halted, OutOfRange}
+use Rattle.rules.specs.declared.Refusal.TheVariants.{TaskTable, ConnectionTable, TaskValue, ConnectionValue, Uneven, Circle, Raised, Multiple, LittleRoom, UnknownMark, CutShort, TooMany, EndWanted, NothingRuns, Halted, OutOfRange}
 use Rattle.rules.specs.declared.Answer.{Answer}
 use Rattle.rules.specs.declared.Answer.TheVariants as answer
 use Rattle.rules.specs.declared.Counts.{Counts}
@@ -27,13 +27,13 @@ module _ {A B : Type 0} (says : A → B) (from : B → A) where
 abbrev pub refusal_of : ℕ → ℕ → Refusal
 refusal_of n p =
     get_or
-    (TaskWords ∷ TaskWords ∷ ConnectionWords ∷ TaskValue p ∷ ConnectionValue p ∷ Uneven p ∷ Circle p ∷ Raised p ∷ Multiple
+    (TaskTable ∷ TaskTable ∷ ConnectionTable ∷ TaskValue p ∷ ConnectionValue p ∷ Uneven p ∷ Circle p ∷ Raised p ∷ Multiple
     ∷ LittleRoom ∷ UnknownMark p ∷ CutShort p ∷ TooMany p ∷ EndWanted p ∷ NothingRuns ∷ Halted ∷ OutOfRange ∷ [])
-    n TaskWords
+    n TaskTable
 
 refusal_back : (f : Refusal) → refusal_of (number_of f) (place_of f) ≡ f
-refusal_back TaskWords = refl
-refusal_back ConnectionWords = refl
+refusal_back TaskTable = refl
+refusal_back ConnectionTable = refl
 refusal_back (TaskValue i) = refl
 refusal_back (ConnectionValue c) = refl
 refusal_back (Uneven c) = refl

@@ -4,7 +4,7 @@ use Rattle.std.specs.Prelude.{◌≡◌, ℕ, Result, Ok, Err}
 use Rattle.rules.specs.Refusals.{little_room, unknown_mark, cut_short, too_many, end_wanted, nothing_runs, is_halted, out_of_range}
 use Rattle.rules.specs.File.{Reading}
 use Rattle.rules.specs.declared.Refusal.{Refusal}
-use Rattle.rules.specs.declared.Refusal.TheVariants.{TaskWords, ConnectionWords, TaskValue, ConnectionValue, Uneven, Circle, Raised, Multiple, LittleRoom, UnknownMark, CutShort, TooMany, EndWanted, NothingRuns, Halted, OutOfRange}
+use Rattle.rules.specs.declared.Refusal.TheVariants.{TaskTable, ConnectionTable, TaskValue, ConnectionValue, Uneven, Circle, Raised, Multiple, LittleRoom, UnknownMark, CutShort, TooMany, EndWanted, NothingRuns, Halted, OutOfRange}
 use Rattle.rules.specs.declared.Answer.{Answer}
 use Rattle.rules.specs.declared.Answer.TheVariants as answer
 use Rattle.rules.specs.declared.Counts.{Counts}
@@ -20,8 +20,8 @@ told k n v = record { kind = k; number = n; value = v }
 
 -- "Refusals in order": the number of each, and its place
 abbrev pub number_of : Refusal → ℕ
-number_of TaskWords = 1
-number_of ConnectionWords = 2
+number_of TaskTable = 1
+number_of ConnectionTable = 2
 number_of (TaskValue i) = 3
 number_of (ConnectionValue c) = 4
 number_of (Uneven c) = 5
@@ -39,8 +39,8 @@ number_of OutOfRange = out_of_range
 
 -- the first task, row or byte that it names; 0 where the list gives it no other
 abbrev pub place_of : Refusal → ℕ
-place_of TaskWords = 0
-place_of ConnectionWords = 0
+place_of TaskTable = 0
+place_of ConnectionTable = 0
 place_of (TaskValue i) = i
 place_of (ConnectionValue c) = c
 place_of (Uneven c) = c

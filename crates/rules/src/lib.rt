@@ -51,8 +51,8 @@ pub struct State {
 // The list of refusals, each with its place where that can be other than 0.
 #[derive(Clone, Copy, Debug, PartialEq, Eq)]
 pub enum Refusal {
-    TaskWords,
-    ConnectionWords,
+    TaskTable,
+    ConnectionTable,
     // The task.
     TaskValue(usize),
     // The row.
@@ -79,8 +79,8 @@ impl Refusal {
         ensures { result ≡ number_of self }
     {
         match self {
-            Refusal::TaskWords => 1,
-            Refusal::ConnectionWords => 2,
+            Refusal::TaskTable => 1,
+            Refusal::ConnectionTable => 2,
             Refusal::TaskValue(_) => 3,
             Refusal::ConnectionValue(_) => 4,
             Refusal::Uneven(_) => 5,
