@@ -8,7 +8,7 @@ use lib.ListN.{get_or, take}
 use Rattle.rules.specs.Sizes.{most_tasks, most_task_words, most_row_words}
 use Rattle.rules.specs.Tables.{count}
 use Rattle.rules.specs.File.{contents_of, task_words, connection_words, Reading, read_of}
-use Rattle.rules.specs.Plan.{Accepts, Judges}
+use Rattle.rules.specs.Plan.{PlanIs, Accepts, Judges}
 use Rattle.rules.specs.declared.Plan.{Plan}
 use Rattle.std.specs.Prelude.{Result, Ok, Err}
 use Rattle.rules.specs.Answers.{number_of, place_of}
@@ -28,20 +28,23 @@ list_refused file text f (inr (p, a, v)) h = rw a.read (p, a.plan, rw v h)
 pub list_planned : (file text : List ℕ) (p : Plan) (n : ℕ) → Plans file (Ok (p, n)) → text ≡ table_head ++ rows_of p.order p.deadlines p.criticalities n → ListIs file text
 list_planned file text p n (a, v, e) h = rw a.read (p, a.plan, rw (v, ← e) h)
 
--- a file has few tasks, and an accepted plan's order names tasks
+-- an accepted plan's order names tasks
+pub plan_names : (tw cw : List ℕ) (p : Plan) → PlanIs tw cw p → count tw ≤ most_tasks → p.verdict ≡ Ok tt → (k : ℕ) → k < count tw → get_or p.order k 0 < most_tasks
+plan_names tw cw p h few v k l =
+    let accepts : Accepts tw cw p = subst (λ (r : Result (Unit {0}) Refusal). Judges tw cw r p) v h in
+    let named = accepts.order_is.names k l in
+    omega arith
+
+-- so a file's plan that is accepted has few tasks, and its order names tasks
 pub plan_few : (file : List ℕ) (p : Plan) (n : ℕ) → Plans file (Ok (p, n)) → n ≤ most_tasks
 unfolding read_of
 plan_few file p n (a, v, e) =
     let k = contents_counts file a.counts.0 a.counts.1 a.read in
     rw e (omega (arith, k.tasks, k.few_tasks))
 
-pub plan_names : (file : List ℕ) (p : Plan) (n : ℕ) → Plans file (Ok (p, n)) → (k : ℕ) → k < n → get_or p.order k 0 < most_tasks
-plan_names file p n (a, v, e) k l =
-    let accepts : Accepts (task_words (contents_of file)) (connection_words (contents_of file)) p =
-    subst (λ (r : Result (Unit {0}) Refusal). Judges (task_words (contents_of file)) (connection_words (contents_of file)) r p) v a.plan in
-    let named = accepts.order_is.names k (rw e at l) in
-    let few = plan_few file p n (a, v, e) in
-    omega arith
+pub file_names : (file : List ℕ) (p : Plan) (n : ℕ) → Plans file (Ok (p, n)) → (k : ℕ) → k < n → get_or p.order k 0 < most_tasks
+file_names file p n (a, v, e) k l =
+    plan_names (task_words (contents_of file)) (connection_words (contents_of file)) p a.plan (rw e at (plan_few file p n (a, v, e))) v k (rw e at l)
 
 one : (tw cw : List ℕ) (r : Reading) (a b : List ℕ) → Lists tw cw r a → Lists tw cw r b → a ≡ b
 one tw cw (Reading.Read t c) a b x y =

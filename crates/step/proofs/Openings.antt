@@ -7,8 +7,9 @@ use native.Mathlib.Omega.{arith}
 use lib.ListN.{take}
 use Rattle.rules.specs.Sizes.{most_task_words, most_row_words}
 use Rattle.rules.specs.File.{Reading, contents_of, task_words, connection_words, read_of}
-use Rattle.rules.specs.Answers.{Told, told, answer_says}
+use Rattle.rules.specs.Answers.{number_of, place_of, Told, told, answer_says}
 use Rattle.rules.specs.declared.Step.{Step}
+use Rattle.rules.specs.declared.Refusal.{Refusal}
 use Rattle.rules.specs.declared.Answer.{Answer}
 use Rattle.rules.specs.declared.Answer.TheVariants as answer
 use Rattle.rules.proofs.Answers.{answer_says-injective}
@@ -16,6 +17,10 @@ use Rattle.rules.proofs.FileFront.{decisive, contents_front, read_front}
 use Rattle.rules.proofs.Fresh.{fresh_one}
 use Rattle.text.specs.Lines.{answer_line}
 use Rattle.step.specs.Opening.{Opens, OpenIs, run_text, RunIs}
+
+-- a refused file opens to its refusal
+pub open_refused : (file : List ℕ) (f : Refusal) (r : Step) → read_of file most_task_words most_row_words ≡ Reading.Refused (number_of f) (place_of f) → r.answer ≡ answer.Refused f → OpenIs file r
+open_refused file f r e h = rw e (ap answer_says h)
 
 -- a refused file's start is told by its answer alone
 refusal_text : (r : Step) (a : Answer) (n p : ℕ) (input : List ℕ) → answer_says a ≡ told 0 n p → run_text r a input ≡ answer_line a

@@ -4,14 +4,14 @@ use Rattle.rules.specs.Answers.{number_of, place_of}
 use Rattle.text.specs.Lines.{refused_line}
 use Rattle.text.proofs.Filling.{put_front, put_then}
 use Rattle.text.proofs.Lengths.{most_answer, refusal_length, line_put}
-use Rattle.list.proofs.Listed.{list_refused, list_planned, plan_few, plan_names}
+use Rattle.list.proofs.Listed.{list_refused, list_planned, plan_few, file_names}
 use Rattle.list.proofs.listing.Goals as goal
 
 pub rows-requires-clause-n_bound : goal.rows-requires-clause-n_bound
 rows-requires-clause-n_bound c = plan_few _ _ _ c.in-Ok.ensures
 
 pub rows-requires-clause-by_index : goal.rows-requires-clause-by_index
-rows-requires-clause-by_index c = plan_names _ _ _ c.in-Ok.ensures
+rows-requires-clause-by_index c = file_names _ _ _ c.in-Ok.ensures
 
 pub returns-in-Ok-clause-list_is : goal.returns-in-Ok-clause-list_is
 returns-in-Ok-clause-list_is c =
