@@ -1,5 +1,5 @@
 -- A row is copied where the mark of its task is set.
-use Rattle.std.proofs.Common.{◌≡◌, refl, ap, sym, Bool, not, cond, ◌&&◌, ℕ, get_or, arith, rules}
+use Rattle.std.proofs.Common.{◌≡◌, refl, ap, sym, Bool, not, cond, ◌&&◌, get_or, arith, rules}
 use mathlib.Core.Logic.{inl, inr}
 use Rattle.rules.specs.Counting.{map_below}
 use Rattle.rules.specs.Views.{sender, output, undelayed, set_buffers}
@@ -7,6 +7,7 @@ use Rattle.rules.specs.Steps.{delivers, delivered}
 use Rattle.rules.specs.declared.State.{State}
 use Rattle.executive.specs.Marks.{marked}
 use Rattle.executive.proofs.Columns.{state-turn}
+use Rattle.executive.proofs.Copies.{none-delivered}
 use Rattle.executive.proofs.exchange.deliver.Goals as goal
 use Rattle.executive.proofs.exchange.deliver.Goals.{then-state-c, else-state-c}
 
@@ -15,8 +16,8 @@ loop-c-preserved c =
     let s = c.args.state.now in
     let l = c.loop-c in
     let marks = c.args.marks.now in
-    let told = c.requires.1.falling.each (sender s l.c) (c.requires.0.sends l.c (omega arith)) in
-    let same : delivers s l.c (get_or s.buffers l.c 0) ≡ cond (not (undelayed s l.c) && marked marks.due (sender s l.c)) (output s (sender s l.c)) (get_or s.buffers l.c 0) =
+    let told = c.requires.1.each (sender s l.c) (c.requires.0.sends l.c (omega arith)) in
+    let same : delivers s l.c (get_or s.buffers l.c 0) ≡ cond (not (undelayed s l.c) && marked marks.tasks (sender s l.c)) (output s (sender s l.c)) (get_or s.buffers l.c 0) =
     ap (λ (b : Bool). cond (not (undelayed s l.c) && b) (output s (sender s l.c)) (get_or s.buffers l.c 0)) (sym told) in
     let e : l.state ≡ set_buffers s (map_below (delivers s) l.c s.buffers) = l.invariant in
     state-turn (λ (z : State). z.buffers) set_buffers s (delivers s) l.c _ _ 0 (λ _. refl) (λ _ _. refl) l.state c.if-state-c.state e (rw e same)
@@ -25,3 +26,6 @@ loop-c-preserved c =
 pub returns : goal.returns
 unfolding delivered
 returns c = search rules
+
+pub returns-then-not-marks : goal.returns-then-not-marks
+returns-then-not-marks c = sym (none-delivered c.args.state.now c.args.marks.now c.requires.0 c.requires.1 c.if-not-marks.true)
