@@ -23,7 +23,7 @@ use Rattle.board.specs.Rows.{Part}
 use Rattle.board.specs.StateWords.{table_words, state_from, encodes, stored_in, Counted}
 use Rattle.board.specs.Boundary.{Keeps, CallsBy, CallsTo}
 use Rattle.board.proofs.Narrow.{StepNarrow}
-use Rattle.board.proofs.Encoded.{encodes-encoded}
+use Rattle.board.proofs.Encoded.{encoded_from}
 use Rattle.board.proofs.WordsBack.{table_part}
 
 -- the tables of two states with one plan
@@ -71,7 +71,7 @@ pub storable : (old : List ℕ) (s : State) (a : Answer) (z : State) → get_or 
     (state_size ≤ length old) × (Counted z × Part old tasks_at (phases_at - tasks_at) (table_words z))
 unfolding state_from
 storable old s a z b d e k =
-    let v = encodes-encoded old e.0 in
+    let v = encoded_from old e.0 in
     let count : z.count ≡ get_or old 0 0 = k.count ∙ ap (λ (x : State). x.count) e.1 in
     let rows : z.rows ≡ get_or old 1 0 = k.rows ∙ ap (λ (x : State). x.rows) e.1 in (
       v.enough,

@@ -89,9 +89,9 @@ pub encoded_encodes : (ws : List ℕ) → Encoded ws → encodes ws ≡ true
 unfolding encodes
 encoded_encodes ws w = and_both (leb state_size (length ws)) (words_fit ws) (le-leb state_size (length ws) w.enough) (fitted_fit ws w.fitted)
 
-pub encodes-encoded : (ws : List ℕ) → encodes ws ≡ true → Encoded ws
+pub encoded_from : (ws : List ℕ) → encodes ws ≡ true → Encoded ws
 unfolding encodes
-encodes-encoded ws e = record {
+encoded_from ws e = record {
   enough = leb-true state_size (length ws) (and_left (leb state_size (length ws)) (words_fit ws) e);
   fitted = fit_fitted ws (and_right (leb state_size (length ws)) (words_fit ws) e);
 }

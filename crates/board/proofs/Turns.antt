@@ -34,9 +34,6 @@ module _ (ws : List ℕ) (start apart limit n : ℕ) where
   all_low h = all_below-all (fits_at ws start apart limit) n (λ k b. lt-ltb (word_at ws start apart k) limit (h k b))
 
 module _ {A : Type 0} (f : ℕ → A) (limit : ℕ) (ws : List ℕ) (start apart n : ℕ) (old : List A) where
-  pub taking_none : Taking f limit ws start apart n 0 old old true
-  taking_none = record { passed = omega arith; sized = refl; holds = λ e. refl; tells = refl }
-
   -- the element of word k, if it is below the limit
   taking_more : (d : A) (k : ℕ) (o : Option A) (new : List A) (fit : Bool) → Taking f limit ws start apart n k old new fit → k < n →
       SomeIff o (word_at ws start apart k < limit) (f (word_at ws start apart k)) →
@@ -82,9 +79,6 @@ rows_of-length f w h zero = rw zero-mul
 rows_of-length f w h (suc n) = rw (length-append, rows_of-length f w h n, h n, suc-mul)
 
 module _ (start : ℕ) (f : ℕ → List ℕ) (n : ℕ) (old : List ℕ) where
-  pub laying_none : Laying start f n 0 old old
-  laying_none = record { passed = omega arith; sized = refl; lays = refl }
-
   pub laying_turn : (w k : ℕ) (new next : List ℕ) → ((j : ℕ) → length (f j) ≡ w) → Laying start f n k old new → k < n →
       next ≡ sets new (start + k * w) (f k) → Laying start f n (k + 1) old next
   laying_turn w k new next h s l q = record {
@@ -106,9 +100,6 @@ pub record Writing (start : ℕ) (l : List ℕ) (k : ℕ) (old new : List ℕ) :
   pub writes : new ≡ sets old start (take k l)
 
 module _ (start : ℕ) (l old : List ℕ) where
-  pub writing_none : Writing start l 0 old old
-  writing_none = record { passed = omega arith; sized = refl; writes = refl }
-
   pub writing_turn : (k x : ℕ) (new : List ℕ) → Writing start l k old new → k < length l → get_or l k x ≡ x →
       Writing start l (k + 1) old (set new (start + k) x)
   writing_turn k x new t h e = record {

@@ -18,7 +18,7 @@ use Rattle.board.specs.Rows.{rows_of, Part}
 use Rattle.board.specs.Marks.{mark_word, mark_from, task_word, task_from, idle_task}
 use Rattle.board.specs.Elements.{Encodes, times_encode, bytes_encode, marks_encode, phases_encode}
 use Rattle.board.specs.StateWords.{task_row, connection_row, head_words, table_words, moving_words, state_from, encodes, stored_in}
-use Rattle.board.proofs.Encoded.{Fitted, encodes-encoded}
+use Rattle.board.proofs.Encoded.{Fitted, encoded_from}
 
 -- n words written out from place p on
 run : List ℕ → ℕ → ℕ → List ℕ
@@ -151,7 +151,7 @@ module _ (ws : List ℕ) (enough : state_size ≤ length ws) (e : Fitted ws) whe
 -- what is read and stored back is as it was
 pub words_back : (ws : List ℕ) → encodes ws ≡ true → stored_in ws (state_from ws) ≡ ws
 words_back ws h =
-    let e = encodes-encoded ws h in
+    let e = encoded_from ws h in
     let tables = table_part ws e.enough e.fitted in
     let moving = moving_part ws e.enough e.fitted in
     let w = part_more ws 0 phases_at (state_size - phases_at) _ _ (part_more ws 0 tasks_at (phases_at - tasks_at) _ _ (head_part_lem ws e.enough e.fitted) tables) moving in

@@ -165,7 +165,8 @@ pub(crate) fn column<T: Element, const N: usize>(
     ensures { SomeIff result (AllBelow words.now start apart T.limit N) (taken T.value_of words.now start apart N (replicate N T.BLANK)) }
 {
     let mut column = [T::BLANK; N];
-    // Every word is read, and the test comes last: a loop that may end early takes twice the instructions.
+    // Every word is read, and the test comes last: a loop that may end early takes twice the instructions. The elements are written by
+    // number, since a proof knows nothing of what `iter_mut` has written.
     let mut fit = true;
     for k in 0..N {
         let element = T::from_word(words[start + k * apart]);

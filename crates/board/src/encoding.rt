@@ -1,4 +1,4 @@
-// A state into lent words, and a plan: rows of words one after the other.
+// A state into lent words, and a plan: rows of words one after the other, and columns.
 ghost use Rattle.std.specs.Prelude.{◌≡◌, ◌-◌, ◌≤◌, length};
 ghost use Rattle.rules.specs.Sizes.{most_tasks, most_rows, most_task_words, most_row_words};
 ghost use Rattle.board.specs.Layout.{tasks_at, rows_at, phases_at, plan_size, state_size};
@@ -10,96 +10,97 @@ use crate::columns::{Element, put};
 use crate::layout;
 use rules::{Plan, State};
 
-fn put_tasks(words: &mut [u32], s: &State)
+// A row's words stand in as many columns of the state, so the loops over rows go by number.
+fn put_tasks(words: &mut [u32], state: &State)
     requires { state_size ≤ length words.old }
-    ensures { Lays tasks_at (rows_of (task_row s.now) most_tasks) most_task_words words.old words.new }
+    ensures { Lays tasks_at (rows_of (task_row state.now) most_tasks) most_task_words words.old words.new }
 {
     for k in 0..32 {
         let row = [
-            s.periods[k].to_word(),
-            s.deadlines[k].to_word(),
-            s.computes[k].to_word(),
-            s.criticalities[k].to_word(),
-            s.enforced[k].to_word(),
+            state.periods[k].to_word(),
+            state.deadlines[k].to_word(),
+            state.computes[k].to_word(),
+            state.criticalities[k].to_word(),
+            state.enforced[k].to_word(),
         ];
         put(words, layout::PERIODS + k * layout::TASK_WIDTH, &row);
     }
 }
 
-fn put_rows(words: &mut [u32], s: &State)
+fn put_rows(words: &mut [u32], state: &State)
     requires { state_size ≤ length words.old }
-    ensures { Lays rows_at (rows_of (connection_row s.now) most_rows) most_row_words words.old words.new }
+    ensures { Lays rows_at (rows_of (connection_row state.now) most_rows) most_row_words words.old words.new }
 {
     for c in 0..64 {
         let row = [
-            s.senders[c].to_word(),
-            s.receivers[c].to_word(),
-            s.undelayed[c].to_word(),
+            state.senders[c].to_word(),
+            state.receivers[c].to_word(),
+            state.undelayed[c].to_word(),
         ];
         put(words, layout::SENDERS + c * layout::ROW_WIDTH, &row);
     }
 }
 
 #[tactic(auto, unfolding(crate::specs::StateWords::head_words))]
-fn put_head(words: &mut [u32], s: &State)
-    requires { (state_size ≤ length words.old) × Counted s.now }
-    ensures { Lays 0 (head_words s.now) tasks_at words.old words.new }
+fn put_head(words: &mut [u32], state: &State)
+    requires { (state_size ≤ length words.old) × Counted state.now }
+    ensures { Lays 0 (head_words state.now) tasks_at words.old words.new }
 {
     let head = [
-        s.count as u32,
-        s.rows as u32,
-        s.multiple,
-        s.cycle,
-        s.ticked.to_word(),
-        s.halted.to_word(),
+        state.count as u32,
+        state.rows as u32,
+        state.multiple,
+        state.cycle,
+        state.ticked.to_word(),
+        state.halted.to_word(),
     ];
     put(words, 0, &head);
 }
 
-fn put_tables(words: &mut [u32], s: &State)
+fn put_tables(words: &mut [u32], state: &State)
     requires { state_size ≤ length words.old }
-    ensures { Lays tasks_at (table_words s.now) (phases_at - tasks_at) words.old words.new }
+    ensures { Lays tasks_at (table_words state.now) (phases_at - tasks_at) words.old words.new }
 {
-    put_tasks(words, s);
-    put_rows(words, s);
-    put(words, layout::ORDER, &s.order);
+    put_tasks(words, state);
+    put_rows(words, state);
+    put(words, layout::ORDER, &state.order);
 }
 
-fn put_moving(words: &mut [u32], s: &State)
+fn put_moving(words: &mut [u32], state: &State)
     requires { state_size ≤ length words.old }
-    ensures { Lays phases_at (moving_words s.now) (state_size - phases_at) words.old words.new }
+    ensures { Lays phases_at (moving_words state.now) (state_size - phases_at) words.old words.new }
 {
-    put(words, layout::PHASES, &s.tasks);
-    put(words, layout::OUTPUTS, &s.outputs);
-    put(words, layout::DISPATCHES, &s.dispatches);
-    put(words, layout::BUFFERS, &s.buffers);
-    put(words, layout::INPUTS, &s.inputs);
+    put(words, layout::PHASES, &state.tasks);
+    put(words, layout::OUTPUTS, &state.outputs);
+    put(words, layout::DISPATCHES, &state.dispatches);
+    put(words, layout::BUFFERS, &state.buffers);
+    put(words, layout::INPUTS, &state.inputs);
 }
 
-pub(crate) fn put_state(words: &mut [u32], s: &State)
-    requires { (state_size ≤ length words.old) × Counted s.now }
-    ensures { words.new ≡ stored_in words.old s.now }
+pub(crate) fn put_state(words: &mut [u32], state: &State)
+    requires { (state_size ≤ length words.old) × Counted state.now }
+    ensures { words.new ≡ stored_in words.old state.now }
 {
-    put_head(words, s);
-    put_tables(words, s);
-    put_moving(words, s);
+    put_head(words, state);
+    put_tables(words, state);
+    put_moving(words, state);
 }
 
 // The state where the words hold its tables already, as after a call: the tables never change.
-pub(crate) fn put_changes(words: &mut [u32], s: &State)
-    requires { (state_size ≤ length words.old) × (Counted s.now × Part words.old tasks_at (phases_at - tasks_at) (table_words s.now)) }
-    ensures { words.new ≡ stored_in words.old s.now }
+pub(crate) fn put_changes(words: &mut [u32], state: &State)
+    requires { (state_size ≤ length words.old) × (Counted state.now × Part words.old tasks_at (phases_at - tasks_at) (table_words state.now)) }
+    ensures { words.new ≡ stored_in words.old state.now }
 {
-    put_head(words, s);
-    put_moving(words, s);
+    put_head(words, state);
+    put_moving(words, state);
 }
 
-pub(crate) fn put_plan(words: &mut [u32], p: &Plan)
+pub(crate) fn put_plan(words: &mut [u32], plan: &Plan)
     requires { plan_size ≤ length words.old }
-    ensures { words.new ≡ planned_in words.old p.now }
+    ensures { words.new ≡ planned_in words.old plan.now }
 {
-    words[0] = p.multiple;
-    put(words, layout::PLAN_ORDER, &p.order);
-    put(words, layout::PLAN_DEADLINES, &p.deadlines);
-    put(words, layout::PLAN_CRITICALITIES, &p.criticalities);
+    words[0] = plan.multiple;
+    put(words, layout::PLAN_ORDER, &plan.order);
+    put(words, layout::PLAN_DEADLINES, &plan.deadlines);
+    put(words, layout::PLAN_CRITICALITIES, &plan.criticalities);
 }

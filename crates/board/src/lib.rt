@@ -29,9 +29,9 @@ pub extern "C" fn otravelun_plan(tasks: &[u16], connections: &[u16], plan: &mut 
     if plan.len() < layout::PLAN_WORDS {
         return Refusal::LittleRoom.code();
     }
-    let p = planner::plan(tasks, connections);
-    encoding::put_plan(plan, &p);
-    p.verdict.code()
+    let planned = planner::plan(tasks, connections);
+    encoding::put_plan(plan, &planned);
+    planned.verdict.code()
 }
 
 #[unsafe(no_mangle)]

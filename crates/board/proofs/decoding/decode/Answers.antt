@@ -2,45 +2,45 @@
 use Rattle.std.proofs.Common.{Bool, false, List, get_or, refl, ap, arith}
 use Rattle.board.specs.Layout.{outputs_at, dispatches_at, buffers_at, inputs_at}
 use Rattle.board.specs.StateWords.{state_from}
-use Rattle.board.proofs.Encoded.{any_words, encoded_encodes, encodes-encoded}
+use Rattle.board.proofs.Encoded.{any_words, encoded_encodes, encoded_from}
 use Rattle.board.proofs.Fields.{fields_are}
 use Rattle.board.proofs.decoding.decode.Goals as goal
 
 pub returns-then-words-lt-STATE_WORDS : goal.returns-then-words-lt-STATE_WORDS
-returns-then-words-lt-STATE_WORDS c = λ e. let w = (encodes-encoded _ e).enough in let l = c.if-words-lt-STATE_WORDS.true in absurd (omega (arith, w, l))
+returns-then-words-lt-STATE_WORDS c = λ e. let w = (encoded_from _ e).enough in let l = c.if-words-lt-STATE_WORDS.true in absurd (omega (arith, w, l))
 
 pub returns-in_err-marks : goal.returns-in_err-marks
-returns-in_err-marks c = rw c.from_residual.ensures (λ e. c.in_err-marks.ensures (encodes-encoded _ e).fitted.marked)
+returns-in_err-marks c = rw c.from_residual.ensures (λ e. c.in_err-marks.ensures (encoded_from _ e).fitted.marked)
 
 pub returns-in_err-column : goal.returns-in_err-column
-returns-in_err-column c = rw c.from_residual-in_err-column.ensures (λ e. c.in_err-column.ensures (encodes-encoded _ e).fitted.periods)
+returns-in_err-column c = rw c.from_residual-in_err-column.ensures (λ e. c.in_err-column.ensures (encoded_from _ e).fitted.periods)
 
 pub returns-in_err-column-2 : goal.returns-in_err-column-2
-returns-in_err-column-2 c = rw c.from_residual-in_err-column-2.ensures (λ e. c.in_err-column-2.ensures (encodes-encoded _ e).fitted.deadlines)
+returns-in_err-column-2 c = rw c.from_residual-in_err-column-2.ensures (λ e. c.in_err-column-2.ensures (encoded_from _ e).fitted.deadlines)
 
 pub returns-in_err-column-3 : goal.returns-in_err-column-3
-returns-in_err-column-3 c = rw c.from_residual-in_err-column-3.ensures (λ e. c.in_err-column-3.ensures (encodes-encoded _ e).fitted.computes)
+returns-in_err-column-3 c = rw c.from_residual-in_err-column-3.ensures (λ e. c.in_err-column-3.ensures (encoded_from _ e).fitted.computes)
 
 pub returns-in_err-column-4 : goal.returns-in_err-column-4
-returns-in_err-column-4 c = rw c.from_residual-in_err-column-4.ensures (λ e. c.in_err-column-4.ensures (encodes-encoded _ e).fitted.criticalities)
+returns-in_err-column-4 c = rw c.from_residual-in_err-column-4.ensures (λ e. c.in_err-column-4.ensures (encoded_from _ e).fitted.criticalities)
 
 pub returns-in_err-column-5 : goal.returns-in_err-column-5
-returns-in_err-column-5 c = rw c.from_residual-in_err-column-5.ensures (λ e. c.in_err-column-5.ensures (encodes-encoded _ e).fitted.enforced)
+returns-in_err-column-5 c = rw c.from_residual-in_err-column-5.ensures (λ e. c.in_err-column-5.ensures (encoded_from _ e).fitted.enforced)
 
 pub returns-in_err-column-6 : goal.returns-in_err-column-6
-returns-in_err-column-6 c = rw c.from_residual-in_err-column-6.ensures (λ e. c.in_err-column-6.ensures (encodes-encoded _ e).fitted.senders)
+returns-in_err-column-6 c = rw c.from_residual-in_err-column-6.ensures (λ e. c.in_err-column-6.ensures (encoded_from _ e).fitted.senders)
 
 pub returns-in_err-column-7 : goal.returns-in_err-column-7
-returns-in_err-column-7 c = rw c.from_residual-in_err-column-7.ensures (λ e. c.in_err-column-7.ensures (encodes-encoded _ e).fitted.receivers)
+returns-in_err-column-7 c = rw c.from_residual-in_err-column-7.ensures (λ e. c.in_err-column-7.ensures (encoded_from _ e).fitted.receivers)
 
 pub returns-in_err-column-8 : goal.returns-in_err-column-8
-returns-in_err-column-8 c = rw c.from_residual-in_err-column-8.ensures (λ e. c.in_err-column-8.ensures (encodes-encoded _ e).fitted.undelayed)
+returns-in_err-column-8 c = rw c.from_residual-in_err-column-8.ensures (λ e. c.in_err-column-8.ensures (encoded_from _ e).fitted.undelayed)
 
 pub returns-in_err-column-9 : goal.returns-in_err-column-9
-returns-in_err-column-9 c = rw c.from_residual-in_err-column-9.ensures (λ e. c.in_err-column-9.ensures (encodes-encoded _ e).fitted.order)
+returns-in_err-column-9 c = rw c.from_residual-in_err-column-9.ensures (λ e. c.in_err-column-9.ensures (encoded_from _ e).fitted.order)
 
 pub returns-in_err-column-10 : goal.returns-in_err-column-10
-returns-in_err-column-10 c = rw c.from_residual-in_err-column-10.ensures (λ e. c.in_err-column-10.ensures (encodes-encoded _ e).fitted.tasks)
+returns-in_err-column-10 c = rw c.from_residual-in_err-column-10.ensures (λ e. c.in_err-column-10.ensures (encoded_from _ e).fitted.tasks)
 
 -- any word fits a column of words
 pub returns-in_err-column-11 : goal.returns-in_err-column-11

@@ -9,7 +9,7 @@ use Rattle.board.proofs.encoding.put_moving.Goals as goal
 pub returns : goal.returns
 unfolding moving_words
 returns c =
-    let s = c.args.s.now in
+    let s = c.args.state.now in
     let tasks : length s.tasks ≡ 32 = search rules in
     let outputs : length s.outputs ≡ 32 = search rules in
     let dispatches : length s.dispatches ≡ 32 = search rules in

@@ -7,7 +7,7 @@ use Rattle.board.proofs.encoding.put_plan.Goals as goal
 pub returns : goal.returns
 unfolding plan_words
 returns c =
-    let p = c.args.p.now in
+    let p = c.args.plan.now in
     let order : length p.order ≡ 32 = search rules in
     let deadlines : length p.deadlines ≡ 32 = search rules in
     let criticalities : length p.criticalities ≡ 32 = search rules in

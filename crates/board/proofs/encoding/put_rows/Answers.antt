@@ -1,10 +1,7 @@
 -- Before each turn the first c rows stand.
 use Rattle.std.proofs.Common.{arith, refl}
-use Rattle.board.proofs.Turns.{laying_none, laying_turn, laying_end}
+use Rattle.board.proofs.Turns.{laying_turn, laying_end}
 use Rattle.board.proofs.encoding.put_rows.Goals as goal
-
-pub loop-c-init : goal.loop-c-init
-loop-c-init c = laying_none _ _ _ _
 
 pub loop-c-preserved : goal.loop-c-preserved
 loop-c-preserved c =

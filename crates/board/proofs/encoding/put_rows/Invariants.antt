@@ -6,4 +6,4 @@ use Rattle.board.proofs.Turns.{Laying}
 use Rattle.board.proofs.encoding.put_rows.Given as goal
 
 abbrev pub invariant-loop-c : goal.invariant-loop-c
-invariant-loop-c l = Laying rows_at (connection_row l.s) most_rows l.c l.fn.words l.words
+invariant-loop-c l = Laying rows_at (connection_row l.state) most_rows l.c l.fn.words l.words

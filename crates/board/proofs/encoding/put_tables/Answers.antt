@@ -7,6 +7,6 @@ use Rattle.board.proofs.encoding.put_tables.Goals as goal
 pub returns : goal.returns
 unfolding table_words
 returns c =
-    let order : length c.args.s.now.order ≡ 32 = search rules in
+    let order : length c.args.state.now.order ≡ 32 = search rules in
     lays_more _ _ _ _ _ _ _ _ (lays_more _ _ _ _ _ _ _ _ c.put_tasks.ensures c.put_rows.ensures)
     (lays_words _ _ _ _ _ order c.put.ensures)

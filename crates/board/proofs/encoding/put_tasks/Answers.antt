@@ -1,10 +1,7 @@
 -- Before each turn the first k rows stand.
 use Rattle.std.proofs.Common.{arith, refl}
-use Rattle.board.proofs.Turns.{laying_none, laying_turn, laying_end}
+use Rattle.board.proofs.Turns.{laying_turn, laying_end}
 use Rattle.board.proofs.encoding.put_tasks.Goals as goal
-
-pub loop-k-init : goal.loop-k-init
-loop-k-init c = laying_none _ _ _ _
 
 pub loop-k-preserved : goal.loop-k-preserved
 loop-k-preserved c =

@@ -6,4 +6,4 @@ use Rattle.board.proofs.Turns.{Laying}
 use Rattle.board.proofs.encoding.put_tasks.Given as goal
 
 abbrev pub invariant-loop-k : goal.invariant-loop-k
-invariant-loop-k l = Laying tasks_at (task_row l.s) most_tasks l.k l.fn.words l.words
+invariant-loop-k l = Laying tasks_at (task_row l.state) most_tasks l.k l.fn.words l.words
