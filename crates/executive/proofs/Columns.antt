@@ -3,22 +3,15 @@ use mathlib.Core.Path.{◌≡◌, refl, ap, sym, ◌∙◌}
 use mathlib.Core.Bool.{Bool, true, false, cond}
 use mathlib.Core.List.{List}
 use mathlib.Core.Logic.{◌⊎◌, ⊎_elim}
-use Prim.Native.Nat.{ℕ, ◌+◌, ◌≤◌}
+use Prim.Native.Nat.{ℕ, ◌+◌}
 use lib.ListN.{get_or, set, replicate}
 use Rattle.rules.specs.Counting.{map_below, column}
 use Rattle.rules.specs.declared.State.{State}
 use Rattle.rules.proofs.Tests.{cond_true, cond_false}
 use Rattle.rules.proofs.Counting.{map_below-turn, map_below-skip}
 
--- a turn of a loop that stores v at place i if a test holds
-pub column-turn : {A : Type 0} (f : ℕ → A → A) (b : Bool) (v : A) (i : ℕ) (xs out new : List A) (d : A) →
-    f i (get_or xs i d) ≡ cond b v (get_or xs i d) → out ≡ map_below f i xs →
-    ((b ≡ true) × (new ≡ set out i v)) ⊎ ((b ≡ false) × (new ≡ out)) → new ≡ map_below f (i + 1) xs
-column-turn f b v i xs out new d q e w =
-    ⊎_elim (λ t. t.1 ∙ map_below-turn f i xs out d v e (sym (q ∙ cond_true b v (get_or xs i d) t.0)))
-    (λ l. l.1 ∙ map_below-skip f i xs out d e (q ∙ cond_false b v (get_or xs i d) l.0)) w
-
--- the same of a column that stands in a state: `get` reads it, and `put` gives the state with another
+-- a turn of a loop that stores v at place i of a column if a test holds: `get` reads the column of a state, and `put` gives the state with
+-- another
 module _ {A : Type 0} (get : State → List A) (put : State → List A → State) (s : State) (f : ℕ → A → A) (i : ℕ) (b : Bool) (v : A) (d : A) where
   pub state-turn : ((xs : List A) → get (put s xs) ≡ xs) → ((xs ys : List A) → put (put s xs) ys ≡ put s ys) →
       (out new : State) → out ≡ put s (map_below f i (get s)) → f i (get_or (get s) i d) ≡ cond b v (get_or (get s) i d) →

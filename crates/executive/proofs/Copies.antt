@@ -4,9 +4,9 @@ use mathlib.Core.Bool.{Bool, true, false, not, cond, ◌&&◌}
 use mathlib.Core.List.{List}
 use mathlib.Core.Logic.{◌⊎◌, ⊎_elim}
 use Prim.Native.Nat.{ℕ, ◌+◌, ◌<◌}
-use lib.ListN.{get_or, set}
+use lib.ListN.{set}
 use Rattle.rules.specs.Counting.{map_below}
-use Rattle.rules.specs.Views.{task_in, sender, receiver, undelayed, set_tasks, set_dispatches, set_buffers, set_inputs}
+use Rattle.rules.specs.Views.{task_in, sender, receiver, undelayed, set_tasks, set_dispatches, set_buffers}
 use Rattle.rules.specs.Steps.{falls, delivers, delivered, released, samples, wakes, records, dispatched}
 use Rattle.rules.specs.declared.Phase.TheVariants as phase
 use Rattle.rules.specs.declared.Task.{Task}
@@ -19,8 +19,8 @@ use Rattle.executive.specs.declared.deadlines.Marks.{Marks}
 use Rattle.executive.proofs.Marks.{any_below-none}
 
 -- the state with these phases and recorded cycles
-abbrev pub woken : State → List Task → List ℕ → State
-woken s tasks dispatches = set_dispatches (set_tasks s tasks) dispatches
+abbrev pub with_phases : State → List Task → List ℕ → State
+with_phases s tasks dispatches = set_dispatches (set_tasks s tasks) dispatches
 
 module _ (s : State) (i : ℕ) (b : Bool) (e : b ≡ released s i) where
   tasks : List Task
@@ -29,8 +29,8 @@ module _ (s : State) (i : ℕ) (b : Bool) (e : b ≡ released s i) where
   dispatches : List ℕ
   dispatches = map_below (records s) i s.dispatches
 
-  woken-turn : b ≡ true → woken s (set tasks i (task_in phase.Waiting)) (set dispatches i s.cycle)
-      ≡ woken s (map_below (wakes s) (i + 1) s.tasks) (map_below (records s) (i + 1) s.dispatches)
+  woken-turn : b ≡ true → with_phases s (set tasks i (task_in phase.Waiting)) (set dispatches i s.cycle)
+      ≡ with_phases s (map_below (wakes s) (i + 1) s.tasks) (map_below (records s) (i + 1) s.dispatches)
   unfolding tasks dispatches
   woken-turn t =
       let q : released s i ≡ true = sym e ∙ t in
@@ -39,7 +39,7 @@ module _ (s : State) (i : ℕ) (b : Bool) (e : b ≡ released s i) where
         map_below-turn (records s) i s.dispatches (map_below (records s) i s.dispatches) 0 s.cycle refl (sym (cond_true _ _ _ q)),
       )
 
-  woken-skip : b ≡ false → woken s tasks dispatches ≡ woken s (map_below (wakes s) (i + 1) s.tasks) (map_below (records s) (i + 1) s.dispatches)
+  woken-skip : b ≡ false → with_phases s tasks dispatches ≡ with_phases s (map_below (wakes s) (i + 1) s.tasks) (map_below (records s) (i + 1) s.dispatches)
   unfolding tasks dispatches
   woken-skip t =
       let q : released s i ≡ false = sym e ∙ t in
@@ -49,13 +49,13 @@ module _ (s : State) (i : ℕ) (b : Bool) (e : b ≡ released s i) where
       )
 
   -- a turn of the loop over the tasks
-  pub wake-turn : (out new : State) → out ≡ woken s (map_below (wakes s) i s.tasks) (map_below (records s) i s.dispatches) →
-      ((b ≡ true) × (new ≡ woken out (set out.tasks i (task_in phase.Waiting)) (set out.dispatches i out.cycle))) ⊎ ((b ≡ false) × (new ≡ out)) →
-      new ≡ woken s (map_below (wakes s) (i + 1) s.tasks) (map_below (records s) (i + 1) s.dispatches)
+  pub wake-turn : (out new : State) → out ≡ with_phases s (map_below (wakes s) i s.tasks) (map_below (records s) i s.dispatches) →
+      ((b ≡ true) × (new ≡ with_phases out (set out.tasks i (task_in phase.Waiting)) (set out.dispatches i out.cycle))) ⊎ ((b ≡ false) × (new ≡ out)) →
+      new ≡ with_phases s (map_below (wakes s) (i + 1) s.tasks) (map_below (records s) (i + 1) s.dispatches)
   unfolding tasks dispatches
   wake-turn out new q w =
       ⊎_elim
-      (λ t. t.1 ∙ (ap (λ (z : State). woken z (set z.tasks i (task_in phase.Waiting)) (set z.dispatches i z.cycle)) q ∙ woken-turn t.0))
+      (λ t. t.1 ∙ (ap (λ (z : State). with_phases z (set z.tasks i (task_in phase.Waiting)) (set z.dispatches i z.cycle)) q ∙ woken-turn t.0))
       (λ l. l.1 ∙ (q ∙ woken-skip l.0)) w
 
 -- no copy where the mark is not set

@@ -13,7 +13,7 @@ use Rattle.rules.specs.declared.Refusal.{Refusal}
 use Rattle.rules.specs.declared.Refusal.TheVariants.{Halted, OutOfRange}
 use Rattle.rules.proofs.Tests.{true_false}
 use Rattle.rules.proofs.Calls.{judged-out, judged-halted, judged-on}
-use Rattle.rules.proofs.Range.{Ranged, in_range-ranged}
+use Rattle.rules.proofs.Range.{in_range-ranged}
 use Rattle.executive.specs.Fits.{Fits}
 use Rattle.executive.specs.Found.{accepts}
 

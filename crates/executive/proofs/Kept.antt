@@ -1,5 +1,5 @@
 -- What a step asks of the state speaks of its plan alone, and so holds after each step as before it; the marks speak of the cycle too.
-use mathlib.Core.Path.{◌≡◌, sym}
+use mathlib.Core.Path.{◌≡◌}
 use Rattle.rules.specs.declared.State.{State}
 use Rattle.rules.proofs.Steps.{SamePlan}
 use Rattle.executive.specs.Fits.{Fits}

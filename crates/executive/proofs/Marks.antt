@@ -3,17 +3,17 @@
 use mathlib.Core.Path.{◌≡◌, refl, ap, sym, ◌∙◌}
 use mathlib.Core.Bool.{Bool, true, false, ◌||◌}
 use mathlib.Core.List.{List}
-use Prim.Native.Nat.{ℕ, zero, suc, ◌+◌, ◌≤◌, ◌<◌}
+use Prim.Native.Nat.{ℕ, zero, suc, ◌+◌, ◌<◌}
 use native.Mathlib.Omega.{arith}
 use native.Mathlib.Numerals.{add-one}
 use mathlib.Core.Logic.{⊎_elim}
-use lib.ListN.{get_or, set, length, replicate}
+use lib.ListN.{set, length, replicate}
 use lib.Seq.{get_or-set_same, get_or-set_other}
 use lib.Dec.{eqb, ltb}
 use borrow.Author.Tests.{eqb-true, eqb-false, lt-ltb, le-ltb}
-use Rattle.rules.specs.Counting.{first_of, map_below}
+use Rattle.rules.specs.Counting.{first_of}
 use Rattle.rules.proofs.Tests.{by_test, true_false, lt_or, eq_or}
-use Rattle.rules.proofs.Counting.{first_of-hit, first_of-before, map_below-at}
+use Rattle.rules.proofs.Counting.{first_of-hit, first_of-before}
 use Rattle.executive.specs.Marks.{any_below, marked}
 use Rattle.rules.specs.Range.{names}
 use Rattle.rules.specs.Views.{ordered}

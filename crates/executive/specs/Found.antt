@@ -1,6 +1,5 @@
 -- What is found, if it is there: the task that misses its deadline, the task that runs, the refusal.
 use Rattle.std.specs.Prelude.{Bool, cond, ℕ, Option, Some, None, Result, Ok, Err, ltb}
-use Rattle.rules.specs.Counting.{first_of}
 use Rattle.rules.specs.Range.{in_range}
 use Rattle.rules.specs.Steps.{missing, some_runs, running}
 use Rattle.rules.specs.declared.State.{State}

@@ -4,7 +4,7 @@ ghost use Rattle.rules.specs.Steps.{step, ended_at, completing};
 ghost use Rattle.executive.specs.Fits.{Fits};
 
 use crate::choice::{choose, running_task};
-use rules::{Answer, Phase, Refusal, State, Task};
+use rules::{Answer, Phase, Refusal, State};
 
 // "the word is its output, it becomes idle, and for each undelayed connection from it whose receiver has the same recorded cycle the
 // word goes to the buffer"
@@ -23,7 +23,7 @@ fn end(state: &mut State, task: usize, word: u32)
         }
     }
     state.outputs[task] = word;
-    state.tasks[task] = Task { phase: Phase::Idle };
+    state.tasks[task].phase = Phase::Idle;
 }
 
 // "Completion with a word ends the running task .. Then choose as in 4". Where no task runs nothing changes, and the answer is

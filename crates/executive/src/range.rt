@@ -1,6 +1,6 @@
 // Refusals 16 and 15. The tests of times, recorded cycles and rows walk their columns without a branch, so that the compiler takes
 // several places at a time.
-ghost use Rattle.std.specs.Prelude.{◌≡◌, true, ◌≤◌};
+ghost use Rattle.std.specs.Prelude.{◌≡◌, Bool, true, ℕ, ◌<◌, ◌≤◌};
 ghost use Rattle.rules.specs.Counting.{all_below};
 ghost use Rattle.rules.specs.Range.{sizes_fit, times_fit, dispatch_fits, rows_fit, order_fits, tasks_fit, in_range};
 ghost use Rattle.executive.specs.Found.{accepts};
@@ -20,19 +20,29 @@ fn sizes_fit(state: &State) -> bool
         & (state.cycle < state.multiple)
 }
 
+// Whether each place below the count fits. Without a branch, so that the compiler takes several places at a time.
+fn all_fit<F: Fn(usize) -> bool>(count: usize, fits: F) -> bool
+    requires { (i : ℕ) → i < count → F.pre fits i }
+    ensures { (p : ℕ → Bool) → ((i : ℕ) (b : Bool) → i < count → F.post fits i b → b ≡ p i) → result ≡ all_below p count }
+{
+    let mut all = true;
+    for i in 0..count {
+        all &= fits(i);
+    }
+    all
+}
+
 // "the ranges of 3".
 fn times_fit(state: &State) -> bool
     requires { state.now.count ≤ 32 }
     ensures { result ≡ all_below (times_fit state.now) state.now.count }
 {
-    let mut ok = true;
-    for i in 0..state.count {
+    all_fit(state.count, |i| {
         let period = state.periods[i];
         let deadline = state.deadlines[i];
         let compute = state.computes[i];
-        ok &= (1 <= compute) & (compute <= deadline) & (deadline <= period) & (period <= 10000);
-    }
-    ok
+        (1 <= compute) & (compute <= deadline) & (deadline <= period) & (period <= 10000)
+    })
 }
 
 // "a .. recorded dispatch cycle not below it".
@@ -40,11 +50,7 @@ fn dispatches_fit(state: &State) -> bool
     requires { state.now.count ≤ 32 }
     ensures { result ≡ all_below (dispatch_fits state.now) state.now.count }
 {
-    let mut ok = true;
-    for i in 0..state.count {
-        ok &= state.dispatches[i] < state.multiple;
-    }
-    ok
+    all_fit(state.count, |i| state.dispatches[i] < state.multiple)
 }
 
 // "the ranges of .. 4".
@@ -53,11 +59,9 @@ fn rows_fit(state: &State) -> bool
     ensures { result ≡ rows_fit state.now }
 {
     let count = state.count as u8;
-    let mut ok = true;
-    for c in 0..state.rows {
-        ok &= (state.senders[c] < count) & (state.receivers[c] < count);
-    }
-    ok
+    all_fit(state.rows, |c| {
+        (state.senders[c] < count) & (state.receivers[c] < count)
+    })
 }
 
 // "an order that does not name each task once": each place names a task, and each task has a place.
@@ -73,11 +77,7 @@ fn order_fits(state: &State) -> bool
         }
         named[task] = true;
     }
-    let mut all = true;
-    for one in &named[..state.count] {
-        all &= *one;
-    }
-    all
+    all_fit(state.count, |i| named[i])
 }
 
 // The sizes first: with them the columns can be walked.

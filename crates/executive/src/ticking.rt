@@ -5,7 +5,7 @@ ghost use Rattle.executive.specs.Fits.{Fits};
 
 use crate::choice::choose;
 use crate::deadlines::{advance, marks_of, missing_task};
-use crate::exchange::exchange;
+use crate::exchange::{deliver, dispatch};
 use rules::{Answer, State};
 
 // Of a state in range that is not halted. "Tick at cycle t, in this order".
@@ -18,7 +18,8 @@ pub(crate) fn ticking(state: &mut State) -> Answer
         state.halted = true;
         return Answer::Missed(task);
     }
-    exchange(state, &marks);
+    deliver(state, &marks);
+    dispatch(state, &marks);
     let answer = choose(state);
     advance(state);
     answer

@@ -1,5 +1,5 @@
 -- A row is copied where the mark of its task is set.
-use Rattle.std.proofs.Common.{◌≡◌, refl, ap, sym, Bool, not, cond, ◌&&◌, ℕ, get_or, arith, rules}
+use Rattle.std.proofs.Common.{◌≡◌, refl, ap, sym, Bool, not, cond, ◌&&◌, get_or, arith, rules}
 use mathlib.Core.Logic.{inl, inr}
 use Rattle.rules.specs.Counting.{map_below}
 use Rattle.rules.specs.Views.{sender, output, undelayed, set_buffers}
@@ -7,6 +7,7 @@ use Rattle.rules.specs.Steps.{delivers, delivered}
 use Rattle.rules.specs.declared.State.{State}
 use Rattle.executive.specs.Marks.{marked}
 use Rattle.executive.proofs.Columns.{state-turn}
+use Rattle.executive.proofs.Copies.{none-delivered}
 use Rattle.executive.proofs.exchange.deliver.Goals as goal
 use Rattle.executive.proofs.exchange.deliver.Goals.{then-state-c, else-state-c}
 
@@ -25,3 +26,6 @@ loop-c-preserved c =
 pub returns : goal.returns
 unfolding delivered
 returns c = search rules
+
+pub returns-then-not-marks : goal.returns-then-not-marks
+returns-then-not-marks c = sym (none-delivered c.args.state.now c.args.marks.now c.requires.0 c.requires.1 c.if-not-marks.true)

@@ -1,5 +1,5 @@
 -- A row is copied where the mark of its task is set.
-use Rattle.std.proofs.Common.{◌≡◌, refl, ap, sym, Bool, not, cond, ◌&&◌, ℕ, get_or, arith}
+use Rattle.std.proofs.Common.{◌≡◌, refl, ap, sym, Bool, not, cond, ◌&&◌, get_or, arith}
 use mathlib.Core.Logic.{inl, inr}
 use Rattle.rules.specs.Counting.{map_below}
 use Rattle.rules.specs.Views.{receiver, buffer, undelayed, set_inputs}

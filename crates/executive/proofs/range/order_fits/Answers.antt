@@ -1,5 +1,5 @@
 -- A task is seen exactly when some place names it, which is when it has a first place.
-use Rattle.std.proofs.Common.{◌≡◌, refl, ap, sym, ◌∙◌, ◌<◌, ℕ, Bool, true, false, take, List, arith, le-ltb, lt-ltb}
+use Rattle.std.proofs.Common.{◌≡◌, refl, sym, ◌∙◌, ◌<◌, Bool, true, List, arith, rules, le-ltb, lt-ltb}
 use Rattle.std.proofs.lemmas.List.{get_or-take, length-take, length-set}
 use Rattle.rules.specs.Counting.{all_below}
 use Rattle.rules.specs.Range.{place_fits, names, has_place, order_fits}
@@ -33,18 +33,15 @@ loop-task-preserved c =
     let k = l.task-index in
     let few : k < s.count = omega (arith, length-take s.count s.order) in
     let named = get_or-take s.count s.order k 0 few in
-    let fits : ordered s k < s.count = omega (arith, named, c.if-state-task.false) in
-    (length-set l.named _ true ∙ l.invariant.0,
-    sym (sym (and_both _ _ l.invariant.1 (lt-ltb (ordered s k) s.count fits)) ∙ all_below-turn (place_fits s) k _ refl),
-    rw named (named_turn s k l.named (omega (arith, l.invariant.0)) l.invariant.2))
+    let fits : ordered s k < s.count = omega (arith, named, c.if-state-task.false) in (
+      length-set l.named _ true ∙ l.invariant.0,
+      sym (sym (and_both _ _ l.invariant.1 (lt-ltb (ordered s k) s.count fits)) ∙ all_below-turn (place_fits s) k _ refl),
+      rw named (named_turn s k l.named (omega (arith, l.invariant.0)) l.invariant.2),
+    )
 
 pub returns : goal.returns
 returns c =
     let s = c.args.state.now in
     let l = c.loop-task in
     let e : l.task-index ≡ s.count = omega (arith, length-take s.count s.order) in
-    let whole : c.loop-one.one-index ≡ s.count = omega (arith, l.invariant.0, length-take s.count l.named) in
-    c.loop-one.invariant
-    ∙ (ap (all_below (marked (take s.count l.named))) whole
-    ∙ all_below-same (marked (take s.count l.named)) (marked l.named) s.count (λ i h. get_or-take s.count l.named i false h)
-    ∙ fits s l.named (rw e at l.invariant.1) (rw e at l.invariant.2))
+    c.all_fit.ensures (marked l.named) (λ i b h q. search rules) ∙ fits s l.named (rw e at l.invariant.1) (rw e at l.invariant.2)

@@ -1,15 +1,10 @@
--- The places before the task's name tasks, and the marks are those of the tasks that they name; then `all` says whether all tasks before
--- the one that is looked at are named.
+-- The places before the task's name tasks, and the marks are those of the tasks that they name.
 use Rattle.std.proofs.Common.{◌≡◌, true, length}
 use Rattle.rules.specs.Counting.{all_below}
 use Rattle.rules.specs.Range.{place_fits}
-use Rattle.executive.specs.Marks.{marked}
 use Rattle.executive.proofs.Marks.{MarkedBy, named_in}
 use Rattle.executive.proofs.range.order_fits.Given as goal
 
 abbrev pub invariant-loop-task : goal.invariant-loop-task
 invariant-loop-task l =
     (length l.named ≡ 32) × (all_below (place_fits l.state) l.task-index ≡ true) × MarkedBy (named_in l.state l.task-index) l.named
-
-abbrev pub invariant-loop-one : goal.invariant-loop-one
-invariant-loop-one l = l.all ≡ all_below (marked l.one-items) l.one-index

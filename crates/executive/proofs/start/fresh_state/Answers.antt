@@ -1,5 +1,5 @@
 -- Each column is that of its table, place by place.
-use Rattle.std.proofs.Common.{◌≡◌, ap, arith, ℕ}
+use Rattle.std.proofs.Common.{◌≡◌, ap, arith}
 use mathlib.Core.Path.{◌∙◌}
 use Rattle.rules.specs.Tables.{count, rows}
 use Rattle.rules.specs.Rows.{task_row_at, connection_row_at}

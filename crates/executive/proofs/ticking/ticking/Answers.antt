@@ -1,5 +1,5 @@
 -- Steps 1 to 5 in their order, each the rules' own.
-use Rattle.std.proofs.Common.{◌≡◌, ◌<◌, true, false, ap, sym, ℕ, ltb-true}
+use Rattle.std.proofs.Common.{◌≡◌, ◌<◌, true, false, refl, ap, sym, ℕ, ltb-true}
 use mathlib.Core.Path.{◌∙◌}
 use Rattle.std.proofs.lemmas.Option.{cond_some}
 use lib.Dec.{ltb}
@@ -12,7 +12,7 @@ use Rattle.rules.proofs.Steps.{delivered-plan, dispatched-plan, chosen-plan, cho
 use Rattle.rules.proofs.Tests.{cond_false}
 use Rattle.executive.specs.Fits.{Fits}
 use Rattle.executive.proofs.Found.{found-none}
-use Rattle.executive.proofs.Kept.{fits-kept}
+use Rattle.executive.proofs.Kept.{fits-kept, marks-kept}
 use Rattle.executive.proofs.ticking.ticking.Goals as goal
 
 -- the state once the words are copied
@@ -43,13 +43,21 @@ returns-in-Some c =
     let q = cond_some (ltb (missing s) s.count) (missing s) c.in-Some.task (sym c.missing_task.ensures ∙ c.in-Some.is) in
     ap (λ (i : ℕ). step (answer.Missed i) (set_halted s true)) (sym q.1) ∙ sym (ticking-missed s (ltb-true _ _ q.0))
 
+pub dispatch-requires : goal.dispatch-requires
+unfolding delivered
+dispatch-requires c =
+    let s = c.args.state.now in
+    let m = c.marks_of-marks.result in
+    let plan = delivered-plan s in
+    rw c.deliver.ensures (fits-kept s (delivered s) plan c.requires.0, marks-kept s (delivered s) m plan refl refl c.marks_of-marks.ensures)
+
 pub choose-answer-requires : goal.choose-answer-requires
-choose-answer-requires c = rw c.exchange.ensures (exchanged-fits c.args.state.now c.requires.0)
+choose-answer-requires c = rw (c.dispatch.ensures, c.deliver.ensures) (exchanged-fits c.args.state.now c.requires.0)
 
 pub advance-requires : goal.advance-requires
 advance-requires c =
     let s = c.args.state.now in
-    let same = ap (λ (r : Step). r.state) (c.choose-answer.ensures ∙ ap chosen c.exchange.ensures) in
+    let same = ap (λ (r : Step). r.state) (c.choose-answer.ensures ∙ ap chosen (c.dispatch.ensures ∙ ap dispatched c.deliver.ensures)) in
     rw same (cycle-below s c.requires.1)
 
 pub returns : goal.returns
@@ -57,4 +65,4 @@ returns c =
     let s = c.args.state.now in
     let none = found-none (ltb (missing s) s.count) (missing s) (sym c.missing_task.ensures ∙ c.in_default.is) in
     ap (step c.choose-answer.result) c.advance.ensures
-    ∙ (ap after (c.choose-answer.ensures ∙ ap chosen c.exchange.ensures) ∙ on s none)
+    ∙ (ap after (c.choose-answer.ensures ∙ ap chosen (c.dispatch.ensures ∙ ap dispatched c.deliver.ensures)) ∙ on s none)
