@@ -14,7 +14,7 @@ use Rattle.rules.specs.declared.State.{State}
 use Rattle.rules.proofs.Tests.{cond_true, cond_false, and_not_right}
 use Rattle.rules.proofs.Counting.{map_below-none, map_below-turn, map_below-skip}
 use Rattle.executive.specs.Fits.{Fits}
-use Rattle.executive.specs.Marks.{MarksAre}
+use Rattle.executive.specs.Marks.{Tells}
 use Rattle.executive.specs.declared.deadlines.Marks.{Marks}
 use Rattle.executive.proofs.Marks.{any_below-none}
 
@@ -63,18 +63,18 @@ copy_off : (a b : Bool) (x y : ℕ) → b ≡ false → cond (a && b) x y ≡ y
 copy_off a b x y e = cond_false (a && b) x y (and_not_right a b e)
 
 -- where no mark is set nothing changes
-module _ (s : State) (m : Marks) (fit : Fits s) (told : MarksAre s m) where
-  pub none-delivered : m.any_due ≡ false → delivered s ≡ s
+module _ (s : State) (m : Marks) (fit : Fits s) where
+  pub none-delivered : Tells s (falls s) m → m.any ≡ false → delivered s ≡ s
   unfolding delivered
-  none-delivered e =
-      let none = λ (i : ℕ) (h : i < s.count). any_below-none (falls s) s.count i (sym told.falling.some ∙ e) h in
+  none-delivered told e =
+      let none = λ (i : ℕ) (h : i < s.count). any_below-none (falls s) s.count i (sym told.some ∙ e) h in
       ap (set_buffers s)
       (map_below-none (delivers s) s.rows s.buffers (λ c h w. copy_off (not (undelayed s c)) _ _ w (none (sender s c) (fit.sends c h))))
 
-  pub none-dispatched : m.any_released ≡ false → dispatched s ≡ s
+  pub none-dispatched : Tells s (released s) m → m.any ≡ false → dispatched s ≡ s
   unfolding dispatched
-  none-dispatched e =
-      let none = λ (i : ℕ) (h : i < s.count). any_below-none (released s) s.count i (sym told.freeing.some ∙ e) h in
+  none-dispatched told e =
+      let none = λ (i : ℕ) (h : i < s.count). any_below-none (released s) s.count i (sym told.some ∙ e) h in
       rw (
         map_below-none (samples s) s.rows s.inputs (λ c h w. copy_off (not (undelayed s c)) _ _ w (none (receiver s c) (fit.receives c h))),
         map_below-none (wakes s) s.count s.tasks (λ i h k. cond_false _ _ _ (none i h)),

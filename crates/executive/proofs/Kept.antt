@@ -1,9 +1,11 @@
--- What a step asks of the state speaks of its plan alone, and so holds after each step as before it; the marks speak of the cycle too.
+-- What a step asks of the state speaks of its plan alone, and so holds after each step as before it; who is dispatched is the same once the
+-- outputs are delivered.
 use mathlib.Core.Path.{◌≡◌}
+use Rattle.rules.specs.Steps.{released, delivered}
 use Rattle.rules.specs.declared.State.{State}
 use Rattle.rules.proofs.Steps.{SamePlan}
 use Rattle.executive.specs.Fits.{Fits}
-use Rattle.executive.specs.Marks.{MarksAre}
+use Rattle.executive.specs.Marks.{Tells}
 use Rattle.executive.specs.declared.deadlines.Marks.{Marks}
 
 pub fits-kept : (s z : State) → SamePlan s z → Fits s → Fits z
@@ -19,10 +21,6 @@ fits-kept s z p f =
       names = f.names;
     })
 
-pub marks-kept : (s z : State) (m : Marks) → SamePlan s z → z.cycle ≡ s.cycle → z.ticked ≡ s.ticked → MarksAre s m → MarksAre z m
-marks-kept s z m p t k a =
-    rw (← p, t, k)
-    (record {
-      falling = record { each = a.falling.each; some = a.falling.some };
-      freeing = record { each = a.freeing.each; some = a.freeing.some };
-    })
+pub freed-kept : (s : State) (m : Marks) → Tells s (released s) m → Tells (delivered s) (released (delivered s)) m
+unfolding delivered
+freed-kept s m t = record { each = t.each; some = t.some }

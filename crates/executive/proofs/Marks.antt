@@ -14,7 +14,10 @@ use borrow.Author.Tests.{eqb-true, eqb-false, lt-ltb, le-ltb}
 use Rattle.rules.specs.Counting.{first_of}
 use Rattle.rules.proofs.Tests.{by_test, true_false, lt_or, eq_or}
 use Rattle.rules.proofs.Counting.{first_of-hit, first_of-before}
-use Rattle.executive.specs.Marks.{any_below, marked}
+use Rattle.std.proofs.lemmas.List.{length-set}
+use Rattle.rules.specs.Sizes.{most_tasks}
+use Rattle.executive.specs.Marks.{any_below, marked, no_marks, with_mark}
+use Rattle.executive.specs.declared.deadlines.Marks.{Marks}
 use Rattle.rules.specs.Range.{names}
 use Rattle.rules.specs.Views.{ordered}
 use Rattle.rules.specs.declared.State.{State}
@@ -89,11 +92,22 @@ named_turn s k seen h e i =
     (λ q. get_or-set_other seen (ordered s k) i true false (λ z. eqb-false _ _ q (sym z)) ∙ (e i ∙ sym (or_false (named_in s k i) _ q))))
 
 -- ---------------------------------------------------------------------------------------------------------------------------
--- The marks that a loop puts: one turn.
+-- The marks that a loop puts, up to task n: one turn.
 
-pub marked-turn : (p : ℕ → Bool) (i : ℕ) (marks : List Bool) (v : Bool) → i < length marks → ((k : ℕ) → k < i → marked marks k ≡ p k) → v ≡ p i →
-    (k : ℕ) → k < i + 1 → marked (set marks i v) k ≡ p k
-marked-turn p i marks v l b e k h =
-    ⊎_elim
-    (λ q. rw q (get_or-set_same marks i v false l ∙ e))
-    (λ q. get_or-set_other marks i k v false q ∙ b k (omega arith)) (eq_or k i)
+pub record Telling (p : ℕ → Bool) (n : ℕ) (m : Marks) : Type 0 where
+  pub places : length m.tasks ≡ most_tasks
+  pub each : (k : ℕ) → k < n → marked m.tasks k ≡ p k
+  pub some : m.any ≡ any_below p n
+
+pub telling-none : (p : ℕ → Bool) → Telling p 0 no_marks
+telling-none p = record { places = refl; each = λ k h. absurd (omega arith); some = refl }
+
+pub telling-turn : (p : ℕ → Bool) (i : ℕ) (m : Marks) (b : Bool) → i < most_tasks → Telling p i m → b ≡ p i → Telling p (i + 1) (with_mark m i b)
+telling-turn p i m b l t e = record {
+  places = length-set m.tasks i b ∙ t.places;
+  each = λ k h.
+      ⊎_elim
+      (λ q. rw q (get_or-set_same m.tasks i b false (omega (arith, t.places)) ∙ e))
+      (λ q. get_or-set_other m.tasks i k b false q ∙ t.each k (omega arith)) (eq_or k i);
+  some = ap (λ (x : Bool). m.any || x) e ∙ any_below-turn p i m.any t.some;
+}

@@ -1,6 +1,6 @@
 -- Marks by place: whose deadlines fall and who is dispatched.
-use Rattle.std.specs.Prelude.{◌≡◌, Bool, false, ◌||◌, List, ℕ, zero, suc, ◌<◌, get_or}
-use Rattle.rules.specs.Steps.{falls, released}
+use Rattle.std.specs.Prelude.{◌≡◌, Bool, false, ◌||◌, List, ℕ, zero, suc, ◌<◌, get_or, set, replicate}
+use Rattle.rules.specs.Sizes.{most_tasks}
 use Rattle.rules.specs.declared.State.{State}
 use Rattle.executive.specs.declared.deadlines.Marks.{Marks}
 
@@ -13,12 +13,14 @@ any_below p (suc n) = any_below p n || p n
 abbrev pub marked : List Bool → ℕ → Bool
 marked marks i = get_or marks i false
 
--- the mark of each task that the state has is what the test says, and `any` whether there is one
-pub record Tells (s : State) (test : ℕ → Bool) (marks : List Bool) (any : Bool) : Type 0 where
-  pub each : (i : ℕ) → i < s.count → marked marks i ≡ test i
-  pub some : any ≡ any_below test s.count
+-- no mark, and one more
+abbrev pub no_marks : Marks
+no_marks = record { tasks = replicate most_tasks false; any = false }
 
--- "whose deadlines fall", and who is dispatched
-pub record MarksAre (s : State) (m : Marks) : Type 0 where
-  pub falling : Tells s (falls s) m.due m.any_due
-  pub freeing : Tells s (released s) m.released m.any_released
+abbrev pub with_mark : Marks → ℕ → Bool → Marks
+with_mark m i b = record { tasks = set m.tasks i b; any = m.any || b }
+
+-- the mark of each task that the state has is what the test says, and `any` whether there is one
+pub record Tells (s : State) (test : ℕ → Bool) (m : Marks) : Type 0 where
+  pub each : (i : ℕ) → i < s.count → marked m.tasks i ≡ test i
+  pub some : m.any ≡ any_below test s.count

@@ -13,13 +13,13 @@ pub(crate) fn ticking(state: &mut State) -> Answer
     requires { Fits state.old × (state.old.cycle < state.old.multiple) }
     ensures { step result state.new ≡ ticking state.old }
 {
-    let marks = marks_of(state);
-    if let Some(task) = missing_task(state, &marks) {
+    let (due, released) = marks_of(state);
+    if let Some(task) = missing_task(state, &due) {
         state.halted = true;
         return Answer::Missed(task);
     }
-    deliver(state, &marks);
-    dispatch(state, &marks);
+    deliver(state, &due);
+    dispatch(state, &released);
     let answer = choose(state);
     advance(state);
     answer

@@ -15,18 +15,18 @@ use Rattle.rules.proofs.Counting.{first_of-same}
 use Rattle.executive.proofs.Marks.{any_below-none}
 use Rattle.executive.proofs.deadlines.missing_task.Goals as goal
 
-pub returns-then-not-marks : goal.returns-then-not-marks
-returns-then-not-marks c =
+pub returns-then-not-due : goal.returns-then-not-due
+returns-then-not-due c =
     let s = c.args.state.now in
-    let none = sym c.requires.1.falling.some ∙ c.if-not-marks.true in
+    let none = sym c.requires.1.some ∙ c.if-not-due.true in
     none-found (late s) (λ (i : ℕ). i) s.count (λ j h. and_not_left _ _ (any_below-none (falls s) s.count j none h))
 
 pub returns : goal.returns
 returns c =
     let s = c.args.state.now in
-    let m = c.args.marks.now in
-    let marked_late = λ (i : ℕ). marked m.due i && not (idle (phase_of s i)) in
-    let same = first_of-same marked_late (late s) s.count (λ i h. ap (λ (b : Bool). b && not (idle (phase_of s i))) (c.requires.1.falling.each i h)) in
+    let m = c.args.due.now in
+    let marked_late = λ (i : ℕ). marked m.tasks i && not (idle (phase_of s i)) in
+    let same = first_of-same marked_late (late s) s.count (λ i h. ap (λ (b : Bool). b && not (idle (phase_of s i))) (c.requires.1.each i h)) in
     first-matched marked_late s.count c.find.result
     (first_from_Range _ _ _ _ (λ i. marked_late i ≡ true) (λ i. marked_late i ≡ false) c.find.ensures.ran
     (λ x q k. grind (arith, tests, same-idle))

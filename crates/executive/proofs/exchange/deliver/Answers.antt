@@ -16,8 +16,8 @@ loop-c-preserved c =
     let s = c.args.state.now in
     let l = c.loop-c in
     let marks = c.args.marks.now in
-    let told = c.requires.1.falling.each (sender s l.c) (c.requires.0.sends l.c (omega arith)) in
-    let same : delivers s l.c (get_or s.buffers l.c 0) ≡ cond (not (undelayed s l.c) && marked marks.due (sender s l.c)) (output s (sender s l.c)) (get_or s.buffers l.c 0) =
+    let told = c.requires.1.each (sender s l.c) (c.requires.0.sends l.c (omega arith)) in
+    let same : delivers s l.c (get_or s.buffers l.c 0) ≡ cond (not (undelayed s l.c) && marked marks.tasks (sender s l.c)) (output s (sender s l.c)) (get_or s.buffers l.c 0) =
     ap (λ (b : Bool). cond (not (undelayed s l.c) && b) (output s (sender s l.c)) (get_or s.buffers l.c 0)) (sym told) in
     let e : l.state ≡ set_buffers s (map_below (delivers s) l.c s.buffers) = l.invariant in
     state-turn (λ (z : State). z.buffers) set_buffers s (delivers s) l.c _ _ 0 (λ _. refl) (λ _ _. refl) l.state c.if-state-c.state e (rw e same)

@@ -15,8 +15,8 @@ loop-c-preserved c =
     let s = c.args.state.now in
     let l = c.loop-c in
     let marks = c.args.marks.now in
-    let told = c.requires.1.freeing.each (receiver s l.c) (c.requires.0.receives l.c (omega arith)) in
-    let same : samples s l.c (get_or s.inputs l.c 0) ≡ cond (not (undelayed s l.c) && marked marks.released (receiver s l.c)) (buffer s l.c) (get_or s.inputs l.c 0) =
+    let told = c.requires.1.each (receiver s l.c) (c.requires.0.receives l.c (omega arith)) in
+    let same : samples s l.c (get_or s.inputs l.c 0) ≡ cond (not (undelayed s l.c) && marked marks.tasks (receiver s l.c)) (buffer s l.c) (get_or s.inputs l.c 0) =
     ap (λ (b : Bool). cond (not (undelayed s l.c) && b) (buffer s l.c) (get_or s.inputs l.c 0)) (sym told) in
     let e : l.state ≡ set_inputs s (map_below (samples s) l.c s.inputs) = l.invariant in
     state-turn (λ (z : State). z.inputs) set_inputs s (samples s) l.c _ _ 0 (λ _. refl) (λ _ _. refl) l.state c.if-state-c.state e (rw e same)

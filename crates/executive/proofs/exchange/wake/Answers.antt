@@ -11,5 +11,5 @@ loop-i-preserved c =
     let s = c.args.state.now in
     let l = c.loop-i in
     let e : l.state ≡ with_phases s (map_below (wakes s) l.i s.tasks) (map_below (records s) l.i s.dispatches) = l.invariant in
-    wake-turn s l.i _ (c.requires.1.freeing.each l.i (omega arith)) l.state c.if-marks-i.state e
+    wake-turn s l.i _ (c.requires.1.each l.i (omega arith)) l.state c.if-marks-i.state e
     (elim c.if-marks-i.branch [ then-marks-i w ↦ inl (w.if-marks-i.true, w.state-is) | else-marks-i w ↦ inr (w.if-marks-i.false, w.state-is) ])

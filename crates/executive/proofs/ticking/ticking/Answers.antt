@@ -1,5 +1,5 @@
 -- Steps 1 to 5 in their order, each the rules' own.
-use Rattle.std.proofs.Common.{◌≡◌, ◌<◌, true, false, refl, ap, sym, ℕ, ltb-true}
+use Rattle.std.proofs.Common.{◌≡◌, ◌<◌, true, false, ap, sym, ℕ, ltb-true}
 use mathlib.Core.Path.{◌∙◌}
 use Rattle.std.proofs.lemmas.Option.{cond_some}
 use lib.Dec.{ltb}
@@ -12,7 +12,7 @@ use Rattle.rules.proofs.Steps.{delivered-plan, dispatched-plan, chosen-plan, cho
 use Rattle.rules.proofs.Tests.{cond_false}
 use Rattle.executive.specs.Fits.{Fits}
 use Rattle.executive.proofs.Found.{found-none}
-use Rattle.executive.proofs.Kept.{fits-kept, marks-kept}
+use Rattle.executive.proofs.Kept.{fits-kept, freed-kept}
 use Rattle.executive.proofs.ticking.ticking.Goals as goal
 
 -- the state once the words are copied
@@ -44,12 +44,9 @@ returns-in-Some c =
     ap (λ (i : ℕ). step (answer.Missed i) (set_halted s true)) (sym q.1) ∙ sym (ticking-missed s (ltb-true _ _ q.0))
 
 pub dispatch-requires : goal.dispatch-requires
-unfolding delivered
 dispatch-requires c =
     let s = c.args.state.now in
-    let m = c.marks_of-marks.result in
-    let plan = delivered-plan s in
-    rw c.deliver.ensures (fits-kept s (delivered s) plan c.requires.0, marks-kept s (delivered s) m plan refl refl c.marks_of-marks.ensures)
+    rw c.deliver.ensures (fits-kept s (delivered s) (delivered-plan s) c.requires.0, freed-kept s _ c.marks_of.ensures.released)
 
 pub choose-answer-requires : goal.choose-answer-requires
 choose-answer-requires c = rw (c.dispatch.ensures, c.deliver.ensures) (exchanged-fits c.args.state.now c.requires.0)
