@@ -1,5 +1,5 @@
 -- Steps 1 to 5 in their order, each the rules' own.
-use Rattle.std.proofs.Common.{◌≡◌, ◌<◌, true, false, ap, sym, ℕ, ltb-true}
+use Rattle.std.proofs.Common.{◌≡◌, ◌<◌, true, false, ap, sym, ℕ, ltb-true, rules}
 use mathlib.Core.Path.{◌∙◌}
 use Rattle.std.proofs.lemmas.Option.{cond_some}
 use lib.Dec.{ltb}
@@ -8,19 +8,15 @@ use Rattle.rules.specs.Steps.{step, missing, delivered, dispatched, chosen, adva
 use Rattle.rules.specs.declared.Answer.TheVariants as answer
 use Rattle.rules.specs.declared.Step.{Step}
 use Rattle.rules.specs.declared.State.{State}
-use Rattle.rules.proofs.Steps.{delivered-plan, dispatched-plan, chosen-plan, chosen-cycle, ticking-missed}
+use Rattle.rules.proofs.Steps.{chosen-plan, chosen-cycle, ticking-missed}
 use Rattle.rules.proofs.Tests.{cond_false}
-use Rattle.executive.specs.Fits.{Fits}
 use Rattle.executive.proofs.Found.{found-none}
-use Rattle.executive.proofs.Kept.{fits-kept, freed-kept}
+use Rattle.executive.proofs.Kept.{fits-delivered, fits-dispatched, freed-delivered}
 use Rattle.executive.proofs.ticking.ticking.Goals as goal
 
 -- the state once the words are copied
 abbrev exchanged : State → State
 exchanged s = dispatched (delivered s)
-
-exchanged-fits : (s : State) → Fits s → Fits (exchanged s)
-exchanged-fits s f = fits-kept (delivered s) _ (dispatched-plan (delivered s)) (fits-kept s _ (delivered-plan s) f)
 
 -- step 5 behind step 4
 abbrev after : Step → Step
@@ -44,12 +40,10 @@ returns-in-Some c =
     ap (λ (i : ℕ). step (answer.Missed i) (set_halted s true)) (sym q.1) ∙ sym (ticking-missed s (ltb-true _ _ q.0))
 
 pub dispatch-requires : goal.dispatch-requires
-dispatch-requires c =
-    let s = c.args.state.now in
-    rw c.deliver.ensures (fits-kept s (delivered s) (delivered-plan s) c.requires.0, freed-kept s _ c.marks_of.ensures.released)
+dispatch-requires c = search (rules, fits-delivered, freed-delivered)
 
 pub choose-answer-requires : goal.choose-answer-requires
-choose-answer-requires c = rw (c.dispatch.ensures, c.deliver.ensures) (exchanged-fits c.args.state.now c.requires.0)
+choose-answer-requires c = search (rules, fits-delivered, fits-dispatched)
 
 pub advance-requires : goal.advance-requires
 advance-requires c =
