@@ -1,17 +1,25 @@
 -- Laws of lists written into words one after the other: two that meet are one, and a list that begins at place 0 stands before
 -- the words past it.
 use mathlib.Core.Path.{◌≡◌, refl, ap, sym, ◌∙◌}
-use mathlib.Core.List.{List, [], ◌∷◌, ◌++◌}
+use mathlib.Core.List.{List, [], ◌∷◌, ◌++◌, map, map-id}
 use Prim.Native.Nat.{ℕ, suc, ◌+◌, ◌≤◌}
 use native.Mathlib.Omega.{arith}
 use native.Mathlib.Nat.{add-zero, add-suc, suc-add, zero-add}
 use lib.ListN.{set, length, drop, length-append, length-drop, take-append-drop}
 use lib.Seq.{sets, sets-eq, length-sets, length-take-le, take-add, drop_at}
+use Rattle.board.specs.Columns.{same}
 use Rattle.board.specs.Rows.{Lays, Part}
 
 pub sets_append : {A : Type 0} (xs ys l : List A) (i : ℕ) → sets l i (xs ++ ys) ≡ sets (sets l i xs) (i + length xs) ys
 sets_append [] ys l i = rw add-zero
 sets_append (x ∷ xs) ys l i = rw (add-suc, ← suc-add) (sets_append xs ys (set l i x) (suc i))
+
+-- a column of elements, and one whose elements are words
+pub lays_column : (start n : ℕ) (l old new : List ℕ) → length l ≡ n → new ≡ sets old start l → Lays start l n old new
+lays_column start n l old new h e = record { sized = h; holds = e }
+
+pub lays_words : (start n : ℕ) (l old new : List ℕ) → length l ≡ n → new ≡ sets old start (map same l) → Lays start l n old new
+lays_words start n l old new h e = lays_column start n l old new h (rw (map-id l) at e)
 
 pub lays_more : (start n m : ℕ) (l k old mid new : List ℕ) → Lays start l n old mid → Lays (start + n) k m mid new →
     Lays start (l ++ k) (n + m) old new

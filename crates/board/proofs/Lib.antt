@@ -3,10 +3,9 @@
 -- back. The whole: OneAnswer, and Through, that the boundary is the executive.
 pub mod Layers
 pub mod Turns
-pub mod PartLaws
 pub mod Narrow
-pub mod Room
 pub mod Encoded
+pub mod Fields
 pub mod WordPlaces
 pub mod StateBack
 pub mod WordsBack

@@ -1,57 +1,42 @@
 -- Laws of the loops that read a column of words and that write rows of words. A loop that reads has `Taking` as its invariant, one
 -- that writes `Laying`, at the place k that it has come to; its proof cites the law of a turn and the law of the end.
 use mathlib.Core.Path.{◌≡◌, refl, ap, ◌∙◌}
-use mathlib.Core.Bool.{Bool, true, ◌&&◌}
 use mathlib.Core.List.{List}
+use mathlib.Core.Logic.{⊎_elim}
 use Prim.Native.Nat.{ℕ, zero, suc, ◌+◌, ◌*◌, ◌≤◌, ◌<◌}
 use native.Mathlib.Omega.{arith}
 use native.Mathlib.Numerals.{add-one}
 use native.Mathlib.Nat.{zero-mul, suc-mul}
 use lib.ListN.{get_or, set, take, length, length-set, length-append}
 use lib.Seq.{sets, length-sets, take-suc, take_all, length-take-le}
-use lib.Dec.{ltb}
-use Rattle.rules.proofs.Counting.{map_below-turn, all_below-turn, all_below-end}
-use Rattle.board.specs.Columns.{word_at, fits_at, below, taken, Takes}
+use Rattle.rules.proofs.Tests.{lt_or}
+use Rattle.rules.proofs.Counting.{map_below-turn}
+use Rattle.board.specs.Columns.{word_at, taken, AllBelow}
 use Rattle.board.specs.Rows.{rows_of, Lays}
 use Rattle.board.proofs.Layers.{sets_append}
 
-pub record Taking {A : Type 0} (f : ℕ → A) (ws : List ℕ) (start apart n k : ℕ) (old new : List A) : Type 0 where
+pub record Taking {A : Type 0} (f : ℕ → A) (limit : ℕ) (ws : List ℕ) (start apart n k : ℕ) (old new : List A) : Type 0 where
   pub passed : k ≤ n
   pub sized : length new ≡ length old
   pub holds : new ≡ taken f ws start apart k old
+  pub low : AllBelow ws start apart limit k
 
--- beside it, a mark that says whether the words so far are below the limit
-pub record Testing (ws : List ℕ) (start apart limit k : ℕ) (fits : Bool) : Type 0 where
-  pub tells : fits ≡ below ws start apart limit k
+module _ {A : Type 0} (f : ℕ → A) (limit : ℕ) (ws : List ℕ) (start apart n : ℕ) (old : List A) where
+  pub taking_none : Taking f limit ws start apart n 0 old old
+  taking_none = record { passed = omega arith; sized = refl; holds = refl; low = λ j h. absurd (omega arith) }
 
-module _ {A : Type 0} (f : ℕ → A) (ws : List ℕ) (start apart n : ℕ) (old : List A) where
-  pub taking_none : Taking f ws start apart n 0 old old
-  taking_none = record { passed = omega arith; sized = refl; holds = refl }
-
-  pub taking_turn : (d : A) (k x : ℕ) (new : List A) → Taking f ws start apart n k old new → k < n → x ≡ word_at ws start apart k →
-      Taking f ws start apart n (k + 1) old (set new k (f x))
-  taking_turn d k x new t h e = record {
+  pub taking_turn : (d : A) (k : ℕ) (v : A) (new : List A) → Taking f limit ws start apart n k old new → k < n →
+      (word_at ws start apart k < limit) × (v ≡ f (word_at ws start apart k)) → Taking f limit ws start apart n (k + 1) old (set new k v)
+  taking_turn d k v new t h e = record {
     passed = omega arith;
-    sized = length-set new k (f x) ∙ t.sized;
-    holds = map_below-turn (λ j _. f (word_at ws start apart j)) k old new d (f x) t.holds (ap f e);
+    sized = length-set new k v ∙ t.sized;
+    holds = map_below-turn (λ j _. f (word_at ws start apart j)) k old new d v t.holds e.1;
+    low = λ j l. ⊎_elim (λ b. t.low j b) (λ b. let q : j ≡ k = omega arith in rw q e.0) (lt_or j k);
   }
 
-  pub taking_end : (k : ℕ) (new : List A) → Taking f ws start apart n k old new → n ≤ k → new ≡ taken f ws start apart n old
-  taking_end k new t z = let q : k ≡ n = omega arith in rw q at t.holds
-
-  pub takes-end : (limit k : ℕ) (new : List A) (fits : Bool) → Taking f ws start apart n k old new → Testing ws start apart limit k fits →
-      n ≤ k → Takes f limit ws start apart n old new fits
-  takes-end limit k new fits t e z = record {
-    holds = taking_end k new t z;
-    tells = all_below-end (fits_at ws start apart limit) n k fits t.passed z e.tells;
-  }
-
-pub testing_none : (ws : List ℕ) (start apart limit : ℕ) → Testing ws start apart limit 0 true
-testing_none ws start apart limit = record { tells = refl }
-
-pub testing_turn : (ws : List ℕ) (start apart limit k x : ℕ) (fits : Bool) → Testing ws start apart limit k fits →
-    x ≡ word_at ws start apart k → Testing ws start apart limit (k + 1) (fits && ltb x limit)
-testing_turn ws start apart limit k x fits e q = record { tells = rw q (all_below-turn (fits_at ws start apart limit) k fits e.tells) }
+  pub taking_end : (k : ℕ) (new : List A) → Taking f limit ws start apart n k old new → n ≤ k →
+      AllBelow ws start apart limit n × (new ≡ taken f ws start apart n old)
+  taking_end k new t z = let q : k ≡ n = omega arith in (rw q at t.low, rw q at t.holds)
 
 -- a loop that writes rows of words, each of the same width, one after the other
 pub record Laying (start : ℕ) (f : ℕ → List ℕ) (n k : ℕ) (old new : List ℕ) : Type 0 where
@@ -91,12 +76,12 @@ module _ (start : ℕ) (l old : List ℕ) where
   pub writing_none : Writing start l 0 old old
   writing_none = record { passed = omega arith; sized = refl; writes = refl }
 
-  pub writing_turn : (k x : ℕ) (new : List ℕ) → Writing start l k old new → k < length l → x ≡ get_or l k 0 →
+  pub writing_turn : (k x : ℕ) (new : List ℕ) → Writing start l k old new → k < length l → get_or l k x ≡ x →
       Writing start l (k + 1) old (set new (start + k) x)
   writing_turn k x new t h e = record {
     passed = omega arith;
     sized = length-set new (start + k) x ∙ t.sized;
-    writes = rw (e, t.writes, add-one, take-suc l k 0 h, sets_append, length-take-le k l t.passed) refl;
+    writes = rw (t.writes, add-one, take-suc l k x h, e, sets_append, length-take-le k l t.passed) refl;
   }
 
   pub writing_end : (k : ℕ) (new : List ℕ) → Writing start l k old new → length l ≤ k → new ≡ sets old start l

@@ -1,5 +1,5 @@
 -- A column of words that stand some places apart in words lent by a caller: word k of the column that begins at `start`.
-use Rattle.std.specs.Prelude.{◌≡◌, Bool, List, ℕ, ◌+◌, ◌*◌, ◌%◌, ◌<◌, get_or, ltb}
+use Rattle.std.specs.Prelude.{Bool, List, ℕ, ◌+◌, ◌*◌, ◌%◌, ◌<◌, get_or, ltb}
 use Rattle.rules.specs.Counting.{all_below, map_below}
 
 abbrev pub word_at : List ℕ → ℕ → ℕ → ℕ → ℕ
@@ -16,6 +16,10 @@ fits_at ws start apart limit k = ltb (word_at ws start apart k) limit
 abbrev pub below : List ℕ → ℕ → ℕ → ℕ → ℕ → Bool
 below ws start apart limit n = all_below (fits_at ws start apart limit) n
 
+-- that each of them is
+abbrev pub AllBelow : List ℕ → ℕ → ℕ → ℕ → ℕ → Type 0
+AllBelow ws start apart limit n = (k : ℕ) → k < n → word_at ws start apart k < limit
+
 -- f of each of them at the first n places of a list, whose others stay
 abbrev pub taken : {A : Type 0} → (ℕ → A) → List ℕ → ℕ → ℕ → ℕ → List A → List A
 taken f ws start apart n xs = map_below (λ k _. f (word_at ws start apart k)) n xs
@@ -26,8 +30,3 @@ same w = w
 
 abbrev pub cut : ℕ → ℕ → ℕ
 cut limit w = w % limit
-
--- a column of a list taken from the words through f, and whether each word is below the limit
-pub record Takes {A : Type 0} (f : ℕ → A) (limit : ℕ) (ws : List ℕ) (start apart n : ℕ) (old new : List A) (fits : Bool) : Type 0 where
-  pub holds : new ≡ taken f ws start apart n old
-  pub tells : fits ≡ below ws start apart limit n

@@ -6,7 +6,7 @@ pub mod Widths
 pub mod Columns
 pub mod Rows
 pub mod Marks
+pub mod Elements
 pub mod PlanWords
 pub mod StateWords
-pub mod Parts
 pub mod Boundary

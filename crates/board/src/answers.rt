@@ -1,45 +1,68 @@
 // An answer as one number: its kind, 256 times its number and 65,536 times its value.
-ghost use Rattle.std.specs.Prelude.{◌≡◌};
-ghost use Rattle.rules.specs.Answers.{told, answer_says, verdict_says, reading_says};
-ghost use Rattle.board.specs.Codes.{coded, Narrow};
+ghost use Rattle.std.specs.Prelude.{◌≡◌, ℕ};
+ghost use Rattle.rules.specs.Answers.{Told, told, answer_says, verdict_says, reading_says};
+ghost use Rattle.board.specs.Codes.{coded, kind_number, Narrow};
 
 use rules::{Answer, Reading, Verdict};
 
-pub(crate) fn code(kind: u64, number: usize, value: usize) -> u64
-    requires { Narrow (told kind number value) }
-    ensures { result ≡ coded (told kind number value) }
-{
-    kind + 256 * (number as u64) + 65536 * (value as u64)
+// The kinds, by the numbers of the C interface.
+#[derive(Clone, Copy, Debug, PartialEq, Eq)]
+pub(crate) enum Kind {
+    Refused = 0,
+    Running = 1,
+    Idle = 2,
+    Missed = 3,
+    Accepted = 4,
+    Read = 5,
 }
 
-pub(crate) fn of_answer(a: Answer) -> u64
-    requires { Narrow (answer_says a) }
-    ensures { result ≡ coded (answer_says a) }
+pub(crate) fn code(kind: Kind, number: usize, value: usize) -> u64
+    requires { Narrow (told (kind_number kind) number value) }
+    ensures { result ≡ coded (told (kind_number kind) number value) }
 {
-    match a {
-        Answer::Refused(n, p) => code(0, n, p),
-        Answer::Running(i) => code(1, 0, i),
-        Answer::Idle => code(2, 0, 0),
-        Answer::Missed(i) => code(3, 0, i),
+    kind as u64 + 256 * (number as u64) + 65536 * (value as u64)
+}
+
+// What a call may answer.
+pub(crate) trait Coded {
+    ghost says: { Self → Told };
+
+    fn code(self) -> u64
+        requires { Narrow (says self) }
+        ensures { result ≡ coded (says self) };
+}
+
+impl Coded for Answer {
+    ghost says = { answer_says };
+
+    fn code(self) -> u64 {
+        match self {
+            Answer::Refused(number, place) => code(Kind::Refused, number, place),
+            Answer::Running(task) => code(Kind::Running, 0, task),
+            Answer::Idle => code(Kind::Idle, 0, 0),
+            Answer::Missed(task) => code(Kind::Missed, 0, task),
+        }
     }
 }
 
-pub(crate) fn of_verdict(v: Verdict) -> u64
-    requires { Narrow (verdict_says v) }
-    ensures { result ≡ coded (verdict_says v) }
-{
-    match v {
-        Verdict::Refused(n, p) => code(0, n, p),
-        Verdict::Accepted => code(4, 0, 0),
+impl Coded for Verdict {
+    ghost says = { verdict_says };
+
+    fn code(self) -> u64 {
+        match self {
+            Verdict::Refused(number, place) => code(Kind::Refused, number, place),
+            Verdict::Accepted => code(Kind::Accepted, 0, 0),
+        }
     }
 }
 
-pub(crate) fn of_reading(a: Reading) -> u64
-    requires { Narrow (reading_says a) }
-    ensures { result ≡ coded (reading_says a) }
-{
-    match a {
-        Reading::Refused(n, p) => code(0, n, p),
-        Reading::Read(t, c) => code(5, t, c),
+impl Coded for Reading {
+    ghost says = { reading_says };
+
+    fn code(self) -> u64 {
+        match self {
+            Reading::Refused(number, place) => code(Kind::Refused, number, place),
+            Reading::Read(tasks, connections) => code(Kind::Read, tasks, connections),
+        }
     }
 }

@@ -1,98 +1,182 @@
-// Columns of a state out of lent words: one function for each kind of element. The words of a column begin at a place and stand
-// some places apart. A column that is narrower than its words has them cut, beside a mark that says whether all fit.
-ghost use Rattle.std.specs.Prelude.{◌≡◌, ◌+◌, ◌*◌, ◌<◌, length, replicate};
-ghost use Rattle.rules.specs.Sizes.{most_tasks};
-ghost use Rattle.board.specs.Columns.{word_at, taken, cut, same, Within, Takes};
-ghost use Rattle.board.specs.Marks.{mark_from, phase_from, task_from, idle_task};
+// Columns of elements in lent words: each element stands in a word, the first at a place and the others some places apart.
+ghost use Rattle.std.specs.Prelude.{◌≡◌, false, true, SomeIff, ℕ, map, ◌+◌, ◌≤◌, ◌<◌, length, replicate};
+ghost use Rattle.std.proofs.lemmas.List.Edits.{sets};
+ghost use Rattle.board.specs.Widths.{wholes, times, bytes, marks, phases};
+ghost use Rattle.board.specs.Columns.{taken, same, cut, Within, AllBelow};
+ghost use Rattle.board.specs.Marks.{mark_word, mark_from, task_word, task_from, idle_task};
+ghost use Rattle.board.specs.Elements.{Encodes, wholes_encode, times_encode, bytes_encode, marks_encode, phases_encode};
 
 use rules::{Phase, Task};
 
-fn word_at(words: &[u32], start: usize, apart: usize, k: usize) -> u32
-    requires { start + k * apart < length words.now }
-    ensures { result ≡ word_at words.now start apart k }
-{
-    words[start + k * apart]
+// What stands in a word. Not every word is one's: those at the limit and above it are not.
+pub(crate) trait Element: Copy {
+    // what stands in a column before it is read
+    ghost BLANK: { Self };
+
+    const BLANK: Self;
+
+    ghost limit: { ℕ };
+
+    ghost value_of: { ℕ → Self };
+
+    ghost word_of: { Self → ℕ };
+
+    ghost laws: { Encodes limit value_of word_of };
+
+    fn from_word(word: u32) -> Option<Self>
+        ensures { SomeIff result (word < limit) (value_of word) };
+
+    fn to_word(self) -> u32
+        ensures { result ≡ word_of self };
 }
 
-pub(crate) fn halves(out: &mut [u16], words: &[u32], start: usize, apart: usize) -> bool
-    requires { Within start apart (length out.old) (length words.now) }
-    ensures { Takes (cut 65536) 65536 words.now start apart (length out.old) out.old out.new result }
-{
-    let mut fit = true;
-    for k in 0..out.len() {
-        let x = word_at(words, start, apart, k);
-        fit = fit & (x < 65536);
-        out[k] = (x % 65536) as u16;
+impl Element for u32 {
+    ghost BLANK = { 0 };
+
+    const BLANK: u32 = 0;
+
+    ghost limit = { wholes };
+
+    ghost value_of = { same };
+
+    ghost word_of = { same };
+
+    ghost laws = { wholes_encode };
+
+    fn from_word(word: u32) -> Option<u32> {
+        Some(word)
     }
-    fit
-}
 
-pub(crate) fn bytes(out: &mut [u8], words: &[u32], start: usize, apart: usize) -> bool
-    requires { Within start apart (length out.old) (length words.now) }
-    ensures { Takes (cut 256) 256 words.now start apart (length out.old) out.old out.new result }
-{
-    let mut fit = true;
-    for k in 0..out.len() {
-        let x = word_at(words, start, apart, k);
-        fit = fit & (x < 256);
-        out[k] = (x % 256) as u8;
-    }
-    fit
-}
-
-pub(crate) fn marks(out: &mut [bool], words: &[u32], start: usize, apart: usize) -> bool
-    requires { Within start apart (length out.old) (length words.now) }
-    ensures { Takes mark_from 2 words.now start apart (length out.old) out.old out.new result }
-{
-    let mut fit = true;
-    for k in 0..out.len() {
-        let x = word_at(words, start, apart, k);
-        fit = fit & (x < 2);
-        out[k] = x == 1;
-    }
-    fit
-}
-
-pub(crate) fn words(out: &mut [u32], words: &[u32], start: usize)
-    requires { Within start 1 (length out.old) (length words.now) }
-    ensures { out.new ≡ taken same words.now start 1 (length out.old) out.old }
-{
-    for k in 0..out.len() {
-        out[k] = word_at(words, start, 1, k);
+    fn to_word(self) -> u32 {
+        self
     }
 }
 
-// The tasks by their phases. (An array of structs is not lent: it is answered, beside the mark.)
-#[derive(Clone, Copy)]
-pub(crate) struct Tasks {
-    pub(crate) fit: bool,
-    pub(crate) tasks: [Task; 32],
-}
+impl Element for u16 {
+    ghost BLANK = { 0 };
 
-fn phase_from(x: u32) -> Phase
-    ensures { result ≡ phase_from x }
-{
-    if x == 1 {
-        Phase::Waiting
-    } else if x == 2 {
-        Phase::Started
-    } else {
-        Phase::Idle
+    const BLANK: u16 = 0;
+
+    ghost limit = { times };
+
+    ghost value_of = { cut times };
+
+    ghost word_of = { same };
+
+    ghost laws = { times_encode };
+
+    fn from_word(word: u32) -> Option<u16> {
+        u16::try_from(word).ok()
+    }
+
+    fn to_word(self) -> u32 {
+        u32::from(self)
     }
 }
 
-pub(crate) fn phases(words: &[u32], start: usize) -> Tasks
-    requires { Within start 1 most_tasks (length words.now) }
-    ensures { Takes task_from 3 words.now start 1 most_tasks (replicate most_tasks idle_task) result.tasks result.fit }
-{
-    let idle = Task { phase: Phase::Idle };
-    let mut out = [idle; 32];
-    let mut fit = true;
-    for k in 0..32 {
-        let x = word_at(words, start, 1, k);
-        fit = fit & (x < 3);
-        let phase = phase_from(x);
-        out[k] = Task { phase };
+impl Element for u8 {
+    ghost BLANK = { 0 };
+
+    const BLANK: u8 = 0;
+
+    ghost limit = { bytes };
+
+    ghost value_of = { cut bytes };
+
+    ghost word_of = { same };
+
+    ghost laws = { bytes_encode };
+
+    fn from_word(word: u32) -> Option<u8> {
+        u8::try_from(word).ok()
     }
-    Tasks { fit, tasks: out }
+
+    fn to_word(self) -> u32 {
+        u32::from(self)
+    }
+}
+
+impl Element for bool {
+    ghost BLANK = { false };
+
+    const BLANK: bool = false;
+
+    ghost limit = { marks };
+
+    ghost value_of = { mark_from };
+
+    ghost word_of = { mark_word };
+
+    ghost laws = { marks_encode };
+
+    fn from_word(word: u32) -> Option<bool> {
+        match word {
+            0 => Some(false),
+            1 => Some(true),
+            _ => None,
+        }
+    }
+
+    fn to_word(self) -> u32 {
+        u32::from(self)
+    }
+}
+
+// A task stands by its phase.
+impl Element for Task {
+    ghost BLANK = { idle_task };
+
+    const BLANK: Task = Task { phase: Phase::Idle };
+
+    ghost limit = { phases };
+
+    ghost value_of = { task_from };
+
+    ghost word_of = { task_word };
+
+    ghost laws = { phases_encode };
+
+    fn from_word(word: u32) -> Option<Task> {
+        let phase = match word {
+            0 => Phase::Idle,
+            1 => Phase::Waiting,
+            2 => Phase::Started,
+            _ => return None,
+        };
+        Some(Task { phase })
+    }
+
+    fn to_word(self) -> u32 {
+        match self.phase {
+            Phase::Idle => 0,
+            Phase::Waiting => 1,
+            Phase::Started => 2,
+        }
+    }
+}
+
+// A column out of the words, unless one of them is no element's.
+pub(crate) fn column<T: Element, const N: usize>(
+    words: &[u32],
+    start: usize,
+    apart: usize,
+) -> Option<[T; N]>
+    requires { Within start apart N (length words.now) }
+    ensures { SomeIff result (AllBelow words.now start apart T.limit N) (taken T.value_of words.now start apart N (replicate N T.BLANK)) }
+{
+    let mut column = [T::BLANK; N];
+    for k in 0..N {
+        column[k] = T::from_word(words[start + k * apart])?;
+    }
+    Some(column)
+}
+
+// Puts a column into the words, side by side.
+pub(crate) fn put<T: Element>(words: &mut [u32], start: usize, column: &[T])
+    requires { start + length column.now ≤ length words.old }
+    ensures { words.new ≡ sets words.old start (map T.word_of column.now) }
+{
+    for (k, element) in column.iter().enumerate() {
+        words[start + k] = element.to_word();
+    }
 }

@@ -8,20 +8,18 @@ mod decoding;
 mod encoding;
 mod layout;
 
-ghost use Rattle.std.specs.Prelude.{◌≡◌};
+ghost use Rattle.std.specs.Fn.{FnOnceReturnsAtMut};
 ghost use Rattle.rules.specs.Calls.{tick_of, complete_of};
-ghost use Rattle.rules.specs.Runs.{refused};
-ghost use Rattle.board.specs.Codes.{coded};
-ghost use Rattle.board.specs.Boundary.{ReadsTo, PlanTold, FreshTold, CallsTo, Leavable, step_says, step_leaves};
+ghost use Rattle.board.specs.Boundary.{ReadsTo, PlanTold, FreshTold, CallsTo, CallsBy, Keeps};
 
-use rules::{Answer, Step};
+use answers::{Coded, Kind, code};
+use rules::{Answer, State};
 
 #[unsafe(no_mangle)]
 pub extern "C" fn otravelun_read(file: &[u8], tasks: &mut [u16], connections: &mut [u16]) -> u64
     ensures { ReadsTo file.now tasks.old connections.old result tasks.new connections.new }
 {
-    let reading = reader::read(file, tasks, connections);
-    answers::of_reading(reading)
+    reader::read(file, tasks, connections).code()
 }
 
 #[unsafe(no_mangle)]
@@ -29,12 +27,11 @@ pub extern "C" fn otravelun_plan(tasks: &[u16], connections: &[u16], plan: &mut 
     ensures { PlanTold tasks.now connections.now plan.old result plan.new }
 {
     if plan.len() < layout::PLAN_WORDS {
-        return answers::code(0, 9, 0);
+        return code(Kind::Refused, 9, 0);
     }
     let p = planner::plan(tasks, connections);
-    encoding::put_plan(plan, p);
-    let verdict = p.verdict;
-    answers::of_verdict(verdict)
+    encoding::put_plan(plan, &p);
+    p.verdict.code()
 }
 
 #[unsafe(no_mangle)]
@@ -42,66 +39,49 @@ pub extern "C" fn otravelun_fresh(tasks: &[u16], connections: &[u16], state: &mu
     ensures { FreshTold tasks.now connections.now state.old result state.new }
 {
     if state.len() < layout::STATE_WORDS {
-        return answers::code(0, 9, 0);
+        return code(Kind::Refused, 9, 0);
     }
-    let x = executive::fresh(tasks, connections);
-    let s = x.state;
-    encoding::put_state(state, s);
-    let answer = x.answer;
-    answers::of_answer(answer)
+    let start = executive::fresh(tasks, connections);
+    encoding::put_state(state, &start.state);
+    start.answer.code()
 }
 
-fn is_refused(a: Answer) -> bool
-    ensures { result ≡ refused a }
+// A call on the state that the words encode: its answer, and unless it is refused its state in the words.
+fn called<F: FnOnce(&mut State) -> Answer>(words: &mut [u32], call: F) -> u64
+    requires callable { F.IsAlwaysCallable call }
+    requires keeps { (s : State) (a : Answer) (z : State) → FnOnceReturnsAtMut F.FnOnce call s a z → Keeps s a z }
+    ensures { CallsBy (FnOnceReturnsAtMut F.FnOnce call) words.old result words.new }
 {
-    match a {
-        Answer::Refused(_, _) => true,
-        Answer::Running(_) => false,
-        Answer::Idle => false,
-        Answer::Missed(_) => false,
+    let Some(mut state) = decoding::decode(words) else {
+        return code(Kind::Refused, 16, 0);
+    };
+    let answer = call(&mut state);
+    let told = answer.code();
+    if let Answer::Refused(_, _) = answer {
+        return told;
     }
-}
-
-// The state of a step into the lent words, unless it is refused; and its answer.
-fn leave(state: &mut [u32], x: Step) -> u64
-    requires { Leavable state.old x }
-    ensures { (result ≡ coded (step_says x)) × (state.new ≡ step_leaves state.old x) }
-{
-    let answer = x.answer;
-    if is_refused(answer) {
-        return answers::of_answer(answer);
-    }
-    let s = x.state;
-    encoding::put_changes(state, s);
-    answers::of_answer(answer)
+    encoding::put_changes(words, &state);
+    told
 }
 
 #[unsafe(no_mangle)]
 pub extern "C" fn otravelun_tick(state: &mut [u32]) -> u64
     ensures { CallsTo tick_of state.old result state.new }
 {
-    if state.len() < layout::STATE_WORDS {
-        return answers::code(0, 16, 0);
-    }
-    let d = decoding::decode(state);
-    if !d.fit {
-        return answers::code(0, 16, 0);
-    }
-    let s = d.state;
-    leave(state, executive::tick(s))
+    called(state, |s: &mut State| {
+        let x = executive::tick(*s);
+        *s = x.state;
+        x.answer
+    })
 }
 
 #[unsafe(no_mangle)]
 pub extern "C" fn otravelun_complete(state: &mut [u32], word: u32) -> u64
     ensures { CallsTo (λ s. complete_of s word) state.old result state.new }
 {
-    if state.len() < layout::STATE_WORDS {
-        return answers::code(0, 16, 0);
-    }
-    let d = decoding::decode(state);
-    if !d.fit {
-        return answers::code(0, 16, 0);
-    }
-    let s = d.state;
-    leave(state, executive::complete(s, word))
+    called(state, |s: &mut State| {
+        let x = executive::complete(*s, word);
+        *s = x.state;
+        x.answer
+    })
 }

@@ -13,9 +13,11 @@ use lib.Seq.{drop-cons, take_all, length-take-le}
 use lib.Dec.{ltb, eqb}
 use borrow.Author.Tests.{lt-ltb, le-ltb, ltb-false}
 use Rattle.rules.proofs.Tests.{lt_or, or_false}
-use Rattle.calls.specs.Line.{tick_letter, complete_letter, space, digit0, digit9, foreign, all_digits, value, word_of, call_of}
+use Rattle.std.specs.Prelude.{Result, Ok}
+use Rattle.calls.specs.Line.{tick_letter, complete_letter, space, digit0, digit9, foreign, all_digits, value, bad, completion, word_of, call_of}
 use Rattle.calls.specs.declared.Call.{Call}
-use Rattle.calls.specs.declared.Call.TheVariants.{Tick, Complete, Bad}
+use Rattle.calls.specs.declared.Call.TheVariants.{Tick}
+use Rattle.calls.specs.declared.BadLine.{BadLine}
 
 -- ---------------------------------------------------------------------------------------------------------------------------
 -- the digits from place i on
@@ -48,7 +50,7 @@ ten_digits i h = pow-le-pow_right (zero-lt-suc 9) h
 abbrev pub sized : List ℕ → Bool
 sized s = ltb (length s) 1 || ltb 10 (length s)
 
-pub word-sized : (s : List ℕ) → sized s ≡ true → word_of s ≡ Bad
+pub word-sized : (s : List ℕ) → sized s ≡ true → word_of s ≡ bad
 unfolding word_of
 word-sized s e = rw e
 
@@ -56,40 +58,40 @@ module _ (s : List ℕ) (few : sized s ≡ false) where
   pub few_digits : (1 ≤ length s) × (length s ≤ 10)
   few_digits = let b = or_false (ltb (length s) 1) (ltb 10 (length s)) few in (ltb-false (length s) 1 b.0, ltb-false 10 (length s) b.1)
 
-  pub word-foreign : all_digits s ≡ false → word_of s ≡ Bad
+  pub word-foreign : all_digits s ≡ false → word_of s ≡ bad
   unfolding word_of
   word-foreign e = rw (few, e)
 
-  pub word-large : all_digits s ≡ true → 4294967295 < value 0 s → word_of s ≡ Bad
+  pub word-large : all_digits s ≡ true → 4294967295 < value 0 s → word_of s ≡ bad
   unfolding word_of
   word-large e h = rw (few, e, lt-ltb _ _ h)
 
-  pub word_read : all_digits s ≡ true → value 0 s ≤ 4294967295 → word_of s ≡ Complete (value 0 s)
+  pub word_read : all_digits s ≡ true → value 0 s ≤ 4294967295 → word_of s ≡ Ok (value 0 s)
   unfolding word_of
   word_read e h = rw (few, e, le-ltb _ _ h)
 
 -- ---------------------------------------------------------------------------------------------------------------------------
 -- a call
 
-pub call_none : (s : List ℕ) → length s ≡ 0 → call_of s ≡ Bad
+pub call_none : (s : List ℕ) → length s ≡ 0 → call_of s ≡ bad
 unfolding call_of
 call_none [] h = refl
 call_none (x ∷ s) h = absurd (omega arith)
 
-pub call_letter : (s : List ℕ) → length s ≡ 1 → call_of s ≡ cond (eqb (get_or s 0 0) tick_letter) Tick Bad
+pub call_letter : (s : List ℕ) → length s ≡ 1 → call_of s ≡ cond (eqb (get_or s 0 0) tick_letter) (Ok Tick) bad
 unfolding call_of
 call_letter [] h = absurd (omega arith)
 call_letter (x ∷ []) h = refl
 call_letter (x ∷ y ∷ s) h = absurd (omega arith)
 
-pub call_longer : (s : List ℕ) → 2 ≤ length s → call_of s ≡ cond (not (eqb (get_or s 0 0) complete_letter) || not (eqb (get_or s 1 0) space)) Bad (word_of (drop 2 s))
+pub call_longer : (s : List ℕ) → 2 ≤ length s → call_of s ≡ cond (not (eqb (get_or s 0 0) complete_letter) || not (eqb (get_or s 1 0) space)) bad (completion (word_of (drop 2 s)))
 unfolding call_of
 call_longer [] h = absurd (omega arith)
 call_longer (x ∷ []) h = absurd (omega arith)
 call_longer (x ∷ y ∷ s) h = refl
 
 -- the decoder's statement admits one answer
-pub call_one : (s : List ℕ) (r q : Call) → r ≡ call_of s → q ≡ call_of s → r ≡ q
+pub call_one : (s : List ℕ) (r q : Result Call BadLine) → r ≡ call_of s → q ≡ call_of s → r ≡ q
 call_one s r q a b = a ∙ sym b
 
 -- ---------------------------------------------------------------------------------------------------------------------------

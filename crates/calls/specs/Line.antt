@@ -1,7 +1,8 @@
 -- 01: "Standard input has one call a line: `t`, or `c`, a space and a decimal 32-bit word (one to ten digits, at most 4,294,967,295)."
-use Rattle.std.specs.Prelude.{Bool, true, cond, not, ◌&&◌, ◌||◌, List, [], ◌∷◌, ℕ, ◌+◌, ◌*◌, ◌-◌, length, ltb, eqb}
+use Rattle.std.specs.Prelude.{Bool, true, cond, not, ◌&&◌, ◌||◌, List, [], ◌∷◌, ℕ, ◌+◌, ◌*◌, ◌-◌, length, ltb, eqb, Result, Ok, Err}
 use Rattle.calls.specs.declared.Call.{Call}
-use Rattle.calls.specs.declared.Call.TheVariants.{Tick, Complete, Bad}
+use Rattle.calls.specs.declared.Call.TheVariants.{Tick, Complete}
+use Rattle.calls.specs.declared.BadLine.{BadLine}
 
 -- the bytes of `t`, `c`, a space, `0` and `9`
 abbrev pub tick_letter : ℕ
@@ -32,14 +33,23 @@ unfoldable pub value : ℕ → List ℕ → ℕ
 value v [] = v
 value v (d ∷ ds) = value (v * 10 + (d - digit0)) ds
 
+-- what a line that is none of the calls is answered
+abbrev pub bad : {A : Type 0} → Result A BadLine
+bad = Err (record {})
+
 -- "a decimal 32-bit word (one to ten digits, at most 4,294,967,295)"
-unfoldable pub word_of : List ℕ → Call
+unfoldable pub word_of : List ℕ → Result ℕ BadLine
 word_of ds =
-    cond (ltb (length ds) 1 || ltb 10 (length ds)) Bad
-    (cond (all_digits ds) (cond (ltb 4294967295 (value 0 ds)) Bad (Complete (value 0 ds))) Bad)
+    cond (ltb (length ds) 1 || ltb 10 (length ds)) bad
+    (cond (all_digits ds) (cond (ltb 4294967295 (value 0 ds)) bad (Ok (value 0 ds))) bad)
+
+-- a call with this word, or a bad line with no word
+abbrev pub completion : Result ℕ BadLine → Result Call BadLine
+completion (Ok w) = Ok (Complete w)
+completion (Err e) = Err e
 
 -- "`t`, or `c`, a space and a .. word"; "any other line" is bad
-unfoldable pub call_of : List ℕ → Call
-call_of [] = Bad
-call_of (x ∷ []) = cond (eqb x tick_letter) Tick Bad
-call_of (x ∷ y ∷ ds) = cond (not (eqb x complete_letter) || not (eqb y space)) Bad (word_of ds)
+unfoldable pub call_of : List ℕ → Result Call BadLine
+call_of [] = bad
+call_of (x ∷ []) = cond (eqb x tick_letter) (Ok Tick) bad
+call_of (x ∷ y ∷ ds) = cond (not (eqb x complete_letter) || not (eqb y space)) bad (completion (word_of ds))

@@ -4,52 +4,42 @@
 ghost use Rattle.std.specs.Prelude.{◌≡◌};
 ghost use Rattle.calls.specs.Line.{call_of, word_of};
 
-#[derive(Clone, Copy)]
+#[derive(Clone, Copy, Debug, PartialEq, Eq)]
 pub enum Call {
     Tick,
     Complete(u32),
-    Bad,
 }
+
+// A line that is none of the calls.
+#[derive(Clone, Copy, Debug, PartialEq, Eq)]
+pub struct BadLine;
 
 // One to ten digits, at most 4,294,967,295.
-fn word(digits: &[u8]) -> Call
+fn word(digits: &[u8]) -> Result<u32, BadLine>
     ensures { result ≡ word_of digits.now }
 {
-    if (digits.len() < 1) | (digits.len() > 10) {
-        return Call::Bad;
+    if digits.is_empty() || digits.len() > 10 {
+        return Err(BadLine);
     }
-    let mut v: u64 = 0;
-    let mut i: usize = 0;
-    while i < digits.len() {
-        let d = digits[i];
-        if (d < 48) | (d > 57) {
-            return Call::Bad;
+    let mut number: u64 = 0;
+    for &digit in digits {
+        if !digit.is_ascii_digit() {
+            return Err(BadLine);
         }
-        v = v * 10 + (d - 48) as u64;
-        i += 1;
+        number = number * 10 + u64::from(digit - b'0');
     }
-    if v > 4294967295 {
-        return Call::Bad;
-    }
-    Call::Complete(v as u32)
+    u32::try_from(number).map_err(|_| BadLine)
 }
 
-// `t`, or `c`, a space and a word; the line's end is not part of it.
+// `t`, or `c`, a space and a word; the line's end is not part of it. A public function by this name, which its statement cites: a
+// `TryFrom` beside it would be a second way to ask the same.
 #[tactic(auto, using(crate::proofs::Decode::call_none, crate::proofs::Decode::call_letter, crate::proofs::Decode::call_longer))]
-pub fn call_of(line: &[u8]) -> Call
+pub fn call_of(line: &[u8]) -> Result<Call, BadLine>
     ensures { result ≡ call_of line.now }
 {
-    if line.len() == 0 {
-        return Call::Bad;
+    match line {
+        [b't'] => Ok(Call::Tick),
+        [b'c', b' ', digits @ ..] => Ok(Call::Complete(word(digits)?)),
+        _ => Err(BadLine),
     }
-    if line.len() == 1 {
-        if line[0] == b't' {
-            return Call::Tick;
-        }
-        return Call::Bad;
-    }
-    if (line[0] != b'c') | (line[1] != b' ') {
-        return Call::Bad;
-    }
-    word(&line[2..])
 }

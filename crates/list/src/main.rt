@@ -4,74 +4,42 @@
 ghost use Rattle.std.specs.Prelude.{◌≡◌, ℕ, ◌+◌, ◌*◌, ◌≤◌, ◌<◌, length, get_or, take};
 ghost use Rattle.io.specs.Counts.{IsPrefixLen};
 ghost use Rattle.text.specs.Buffers.{Put};
-ghost use Rattle.rules.specs.declared.Verdict.TheVariants.{Accepted};
-ghost use Rattle.list.specs.Listing.{rows_of, plan_text, refusal_line, ListIs};
+ghost use Rattle.list.specs.Listing.{rows_of, Plans, ListIs};
 
-use rules::{Answer, Plan, Reading, Verdict};
+use reader::Tables;
+use rules::{Plan, Refusal};
 use std::io::Write;
 
-fn wide(x: u8) -> usize
-    ensures { result ≡ x }
-{
-    x as usize
-}
-
-fn wider(x: u32) -> usize
-    ensures { result ≡ x }
-{
-    x as usize
-}
-
 // The first n rows of the table, behind what stands before `at`.
-fn rows(
-    order: [u8; 32],
-    deadlines: [u32; 32],
-    criticalities: [u8; 32],
-    n: usize,
-    out: &mut [u8],
-    at: usize,
-) -> usize
+fn rows(plan: &Plan, n: usize, out: &mut [u8], at: usize) -> usize
     requires n_bound { n ≤ 32 }
-    requires by_index { (k : ℕ) → k < n → get_or order k 0 < 32 }
+    requires by_index { (k : ℕ) → k < n → get_or plan.now.order k 0 < 32 }
     requires at_in_bounds { at + 84 * 32 ≤ length out.old }
-    ensures { Put (84 * 32) out.old at (rows_of order deadlines criticalities n) result out.new }
+    ensures { Put (84 * 32) out.old at (rows_of plan.now.order plan.now.deadlines plan.now.criticalities n) result out.new }
 {
     let mut end = at;
-    let mut k: usize = 0;
-    while k < n {
-        let i = wide(order[k]);
+    for k in 0..n {
+        let task = usize::from(plan.order[k]);
         end = text::table_row(
             k + 1,
-            i,
-            wider(deadlines[i]),
-            wide(criticalities[i]),
+            task,
+            plan.deadlines[task] as usize,
+            usize::from(plan.criticalities[task]),
             out,
             end,
         );
-        k += 1;
     }
     end
 }
 
-// What is printed for a plan of n tasks.
-fn plan_text(p: Plan, n: usize, out: &mut [u8]) -> usize
-    requires n_bound { n ≤ 32 }
-    requires k_bound { p.verdict ≡ Accepted → (k : ℕ) → k < n → get_or p.order k 0 < 32 }
-    requires in_bounds { 2720 ≤ length out.old }
-    ensures { Put 2720 out.old 0 (plan_text p n p.verdict) result out.new }
+// The plan of a file's tables, and how many tasks it has.
+fn plan_of(file: &[u8]) -> Result<(Plan, usize), Refusal>
+    ensures { Plans file.now result }
 {
-    let verdict = p.verdict;
-    let Verdict::Accepted = verdict else {
-        let Verdict::Refused(number, place) = verdict else {
-            return 0;
-        };
-        return text::answer_line(Answer::Refused(number, place), out, 0);
-    };
-    let at = text::table_head(out, 0);
-    let order = p.order;
-    let deadlines = p.deadlines;
-    let criticalities = p.criticalities;
-    rows(order, deadlines, criticalities, n, out, at)
+    let tables = Tables::of(file)?;
+    let plan = planner::plan(tables.tasks(), tables.connections());
+    plan.verdict?;
+    Ok((plan, tables.tasks().len() / 5))
 }
 
 // What is printed for a file.
@@ -80,22 +48,13 @@ fn listing(file: &[u8], out: &mut [u8]) -> usize
     ensures list_is { ListIs file.now (take result out.new) }
     ensures prefix_len { IsPrefixLen result out.new }
 {
-    let mut tasks = [0u16; 160];
-    let mut connections = [0u16; 192];
-    let read = reader::read(file, &mut tasks, &mut connections);
-    let Reading::Read(t, c) = read else {
-        let Reading::Refused(number, place) = read else {
-            return 0;
-        };
-        return text::answer_line(Answer::Refused(number, place), out, 0);
-    };
-    let task_words = t * 5;
-    let row_words = c * 3;
-    plan_text(
-        planner::plan(&tasks[..task_words], &connections[..row_words]),
-        t,
-        out,
-    )
+    match plan_of(file) {
+        Ok((plan, n)) => {
+            let at = text::table_head(out, 0);
+            rows(&plan, n, out, at)
+        }
+        Err(refusal) => text::refusal_line(refusal.number(), refusal.place(), out, 0),
+    }
 }
 
 // The first 643 bytes decide any file.

@@ -1,19 +1,17 @@
 -- The internal numbers: the least that is worked out is at most each that it is worked out over, and is one of them; so with the
 -- square of longest chains it is what 01 asks.
-use mathlib.Core.Path.{◌≡◌, refl, sym, ◌∙◌}
-use mathlib.Core.Bool.{true, false, ◌&&◌}
+use mathlib.Core.Path.{◌≡◌, refl, ◌∙◌}
 use mathlib.Core.Logic.{◌⊎◌, inl, inr, ⊎_elim}
 use mathlib.Core.List.{List}
-use Prim.Native.Nat.{ℕ, zero, suc, ◌+◌, ◌-◌, ◌*◌, ◌≤◌, ◌<◌}
+use Prim.Native.Nat.{ℕ, zero, suc, ◌-◌, ◌*◌, ◌≤◌, ◌<◌}
 use native.Mathlib.Omega.{arith}
-use native.Mathlib.Numerals.{add-one}
 use lib.Dec.{ltb}
 use borrow.Author.Tests.{ltb-true, lt-ltb}
 use Rattle.rules.specs.Sizes.{parts}
 use Rattle.rules.specs.Tables.{count, deadline, criticality}
 use Rattle.rules.specs.Chains.{Link, Chain, Acyclic, Longest}
 use Rattle.rules.specs.Order.{IsDeadline, IsCriticality}
-use Rattle.rules.proofs.Tests.{by_test, lt_or, and_left, and_right, and_both, true_false, cond_true, cond_false}
+use Rattle.rules.proofs.Tests.{by_test, lt_or}
 use Rattle.rules.proofs.Chains.{Upto, chain_ends, upto_longest, upto_reached, longest_one}
 use Rattle.rules.proofs.Refusals.{Tables, link_within}
 use Rattle.planner.specs.Rounds.{Square}
@@ -22,44 +20,23 @@ use Rattle.planner.specs.Internal.{lower, least_of, between, deadline_over, crit
 -- ---------------------------------------------------------------------------------------------------------------------------
 -- The lower of two
 
-pub lower-taken : (best chain x : ℕ) → ltb 0 chain && ltb x best ≡ true → x ≡ lower best chain x
-lower-taken best chain x t = sym (cond_true _ x best t)
-
-pub lower-left : (best chain x : ℕ) → ltb 0 chain && ltb x best ≡ false → best ≡ lower best chain x
-lower-left best chain x t = sym (cond_false _ x best t)
-
 module _ (best chain x : ℕ) where
   lower-low : lower best chain x ≤ best
-  lower-low =
-      by_test (ltb 0 chain && ltb x best)
-      (λ t. rw t (omega (arith, ltb-true x best (and_right (ltb 0 chain) (ltb x best) t))))
-      (λ t. rw t (omega arith))
+  lower-low = by_test (ltb 0 chain) (λ t. rw t (omega arith)) (λ t. rw t (omega arith))
 
   lower-bound : 0 < chain → lower best chain x ≤ x
-  lower-bound h =
-      by_test (ltb 0 chain && ltb x best) (λ t. rw t (omega arith))
-      (λ t. rw t (⊎_elim
-      (λ lt. absurd (true_false (sym (and_both (ltb 0 chain) (ltb x best) (lt-ltb 0 chain h) (lt-ltb x best lt)) ∙ t)))
-      (λ ge. ge) (lt_or x best)))
+  lower-bound h = rw (lt-ltb 0 chain h) (omega arith)
 
   lower-is : (lower best chain x ≡ best) ⊎ ((0 < chain) × (lower best chain x ≡ x))
   lower-is =
-      by_test (ltb 0 chain && ltb x best)
-      (λ t. rw t (inr (ltb-true 0 chain (and_left (ltb 0 chain) (ltb x best) t), refl))) (λ t. rw t (inl refl))
+      by_test (ltb 0 chain)
+      (λ t. rw t (⊎_elim (λ lt. inl (omega arith)) (λ ge. inr (ltb-true 0 chain t, omega arith)) (lt_or best x)))
+      (λ t. rw t (inl refl))
 
 -- ---------------------------------------------------------------------------------------------------------------------------
 -- The least of several
 
 module _ (own : ℕ) (chain f : ℕ → ℕ) where
-  -- a turn, and the end
-  pub least_turn :
-      (j best b x r : ℕ) → best ≡ least_of own chain f j → b ≡ chain j → x ≡ f j → r ≡ lower best b x
-      → r ≡ least_of own chain f (j + 1)
-  least_turn j best b x r e eb ex er = rw (add-one, er, e, eb, ex)
-
-  pub least_end : (n j best : ℕ) → j ≤ n → n ≤ j → best ≡ least_of own chain f j → best ≡ least_of own chain f n
-  least_end n j best a z e = let q : j ≡ n = omega arith in rw q at e
-
   pub least_low : (n : ℕ) → least_of own chain f n ≤ own
   least_low zero = omega arith
   least_low (suc n) = omega (arith, least_low n, lower-low (least_of own chain f n) (chain n) (f n))

@@ -4,5 +4,5 @@ pub mod Tested
 pub mod Rounds
 pub mod Multiples
 pub mod Internals
-pub mod Sorting
 pub mod Stages
+pub mod Sorting

@@ -3,15 +3,15 @@
 use mathlib.Core.Path.{◌≡◌}
 use mathlib.Core.Logic.{⊎_elim}
 use mathlib.Core.List.{List}
-use Prim.Native.Nat.{ℕ, ◌+◌, ◌-◌, ◌%◌, ◌≤◌, ◌<◌, ◌∣◌}
+use Prim.Native.Nat.{ℕ, ◌+◌, ◌-◌, ◌%◌, ◌≤◌, ◌<◌, ◌∣◌, max, min}
 use native.Mathlib.Omega.{arith}
 use native.Mathlib.Nat.{dvd-mod_iff, dvd_of_mod-eq-zero, mod-eq-zero_of_dvd, dvd-sub, le_of_dvd, dvd-add, dvd_trans, mod-lt, dvd_refl, one-dvd}
 use borrow.Author.Count.{below_more}
 use Rattle.rules.specs.Sizes.{most_multiple}
-use Rattle.rules.specs.Tables.{count, period}
+use Rattle.rules.specs.Tables.{period}
 use Rattle.rules.specs.Order.{IsMultiple}
 use Rattle.rules.proofs.Tests.{lt_or, eq_or}
-use Rattle.planner.specs.Multiples.{Meet, Multiple}
+use Rattle.planner.specs.Multiples.{MeetAt, MultipleAt}
 
 -- ---------------------------------------------------------------------------------------------------------------------------
 -- Of two numbers
@@ -43,22 +43,35 @@ module _ (a b t : ℕ) (so : Trying a b t) where
         (lt_or e t);
   }
 
-  pub trying_found : t ≤ most_multiple → t % b ≡ 0 → Meet a b t
-  trying_found h e = record {
-    small = h;
-    is = λ p. (so.multiple, dvd_of_mod-eq-zero b e, so.none);
-    none = λ z. absurd (omega (arith, so.some));
-  }
+  pub trying_found : t ≤ most_multiple → t % b ≡ 0 → MeetAt a b t
+  trying_found h e = record { some = so.some; small = h; left = so.multiple; right = dvd_of_mod-eq-zero b e; least = so.none }
 
-  pub trying_none : most_multiple < t → Meet a b 0
-  trying_none h = record { small = omega arith; is = λ p. absurd (omega arith); none = λ z e p q d x. so.none e p (omega arith) d x }
+-- the larger and the smaller of two numbers in their place
+module _ (a b larger smaller : ℕ) (el : larger ≡ max a b) (es : smaller ≡ min a b) where
+  by_size : (e : ℕ) → a ∣ e → b ∣ e → (larger ∣ e) × (smaller ∣ e)
+  by_size e x y =
+      ⊎_elim (λ lt. let p : larger ≡ b = omega arith in let q : smaller ≡ a = omega arith in rw (p, q) (y, x))
+      (λ ge. let p : larger ≡ a = omega arith in let q : smaller ≡ b = omega arith in rw (p, q) (x, y)) (lt_or a b)
 
-pub meet_sym : (a b r : ℕ) → Meet a b r → Meet b a r
-meet_sym a b r m = record {
-  small = m.small;
-  is = λ p. let w = m.is p in (w.1, w.0, λ e h l x y. w.2 e h l y x);
-  none = λ z e p q x y. m.none z e p q y x;
-}
+  in_turn : (e : ℕ) → larger ∣ e → smaller ∣ e → (a ∣ e) × (b ∣ e)
+  in_turn e x y =
+      ⊎_elim (λ lt. let p : a ≡ smaller = omega arith in let q : b ≡ larger = omega arith in rw (p, q) (y, x))
+      (λ ge. let p : a ≡ larger = omega arith in let q : b ≡ smaller = omega arith in rw (p, q) (x, y)) (lt_or a b)
+
+  pub met : (t : ℕ) → MeetAt larger smaller t → MeetAt a b t
+  met t m =
+      let w = in_turn t m.left m.right in
+      record {
+        some = m.some;
+        small = m.small;
+        left = w.0;
+        right = w.1;
+        least = λ e p q x y. let v = by_size e x y in m.least e p q v.0 v.1;
+      }
+
+  pub unmet :
+      (t : ℕ) → Trying larger smaller t → most_multiple < t → (e : ℕ) → 0 < e → e ≤ most_multiple → a ∣ e → b ∣ e → ⊥
+  unmet t so h e p q x y = let w = by_size e x y in so.none e p (omega arith) w.0 w.1
 
 -- ---------------------------------------------------------------------------------------------------------------------------
 -- Of all periods
@@ -72,38 +85,23 @@ pub record MultipleSoFar (tw : List ℕ) (i l : ℕ) : Type 0 where
 pub multiple_first : (tw : List ℕ) → MultipleSoFar tw 0 1
 multiple_first tw = record { some = omega arith; small = omega arith; common = λ i h. absurd (omega arith); all = λ e c. one-dvd e }
 
-module _ (tw : List ℕ) (i l b t : ℕ) (eb : b ≡ period tw i) (so : MultipleSoFar tw i l) (m : Meet l b t) where
-  both : (e : ℕ) → ((q : ℕ) → q < i + 1 → period tw q ∣ e) → (l ∣ e) × (b ∣ e)
+module _ (tw : List ℕ) (i l b : ℕ) (eb : b ≡ period tw i) (so : MultipleSoFar tw i l) where
+  pub both : (e : ℕ) → ((q : ℕ) → q < i + 1 → period tw q ∣ e) → (l ∣ e) × (b ∣ e)
   both e c = (so.all e (λ q h. c q (omega arith)), rw eb (c i (omega arith)))
 
-  pub multiple_more : 0 < t → MultipleSoFar tw (i + 1) t
-  multiple_more h =
-      let w = m.is h in
+  pub multiple_more : (t : ℕ) → MeetAt l b t → MultipleSoFar tw (i + 1) t
+  multiple_more t m =
       record {
-        some = h;
+        some = m.some;
         small = m.small;
-        common = below_more (λ (q : ℕ). period tw q ∣ t) i (λ q k. dvd_trans (period tw q) (so.common q k) w.0) (rw eb at w.1);
+        common = below_more (λ (q : ℕ). period tw q ∣ t) i (λ q k. dvd_trans (period tw q) (so.common q k) m.left) (rw eb at m.right);
         all = λ e c.
             let d = both e c in
             ⊎_elim
-            (λ pos. absurd (w.2 (e % t) pos (mod-lt e h) ((dvd-mod_iff l w.0).1 d.0) ((dvd-mod_iff b w.1).1 d.1)))
+            (λ pos. absurd (m.least (e % t) pos (mod-lt e m.some) ((dvd-mod_iff l m.left).1 d.0) ((dvd-mod_iff b m.right).1 d.1)))
             (λ z. dvd_of_mod-eq-zero t (omega arith)) (lt_or 0 (e % t));
       }
 
-  pub multiple_over : i < count tw → t ≡ 0 → Multiple tw 0
-  multiple_over h z = record {
-    small = omega arith;
-    is = λ p. absurd (omega arith);
-    none = λ y e p q c. let d = both e (λ k u. c k (omega arith)) in m.none z e p q d.0 d.1;
-  }
-
-pub multiple_done : (tw : List ℕ) (i l : ℕ) → i ≡ count tw → MultipleSoFar tw i l → Multiple tw l
-multiple_done tw i l e so = record {
-  small = so.small;
-  is = λ p. (λ q h. so.common q (omega arith), λ d c. so.all d (λ q h. c q (omega arith)));
-  none = λ z. absurd (omega (arith, so.some));
-}
-
 -- what is worked out is 01's common multiple
-pub multiple_right : (tw : List ℕ) (c : ℕ) → 0 < c → Multiple tw c → IsMultiple tw c
-multiple_right tw c h m = record { some = h; common = (m.is h).0; least = λ e p d. le_of_dvd p ((m.is h).1 e d) }
+pub multiple_right : (tw : List ℕ) (c : ℕ) → MultipleAt tw c → IsMultiple tw c
+multiple_right tw c m = record { some = m.some; common = m.common; least = λ e p d. le_of_dvd p (m.least e d) }

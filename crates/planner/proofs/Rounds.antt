@@ -2,27 +2,22 @@
 -- exactly k connections, and the row has the longest chain of at most k to each task: a round marks each task to which a
 -- connection leads from a marked one, and then the row has k + 1 at the marked tasks.
 use mathlib.Core.Path.{◌≡◌, refl, ap, sym, ◌∙◌, subst}
-use mathlib.Core.Bool.{Bool, true, false, ◌&&◌}
+use mathlib.Core.Bool.{Bool, true, false}
 use mathlib.Core.Logic.{⊎_elim}
 use mathlib.Core.List.{List}
 use Prim.Native.Nat.{ℕ, zero, suc, ◌+◌, ◌≤◌, ◌<◌}
 use native.Mathlib.Omega.{arith}
 use native.Mathlib.Numerals.{add-one}
-use borrow.Author.Count.{below_more}
-use lib.ListN.{get_or, length, set, replicate, length-set}
+use lib.ListN.{get_or, length, set, replicate}
 use lib.Seq.{get_or-set_same}
-use lib.Dec.{eqb}
-use borrow.Author.Tests.{eqb-true, eq-eqb, not-true}
 use Rattle.rules.specs.Sizes.{most_tasks}
-use Rattle.rules.specs.Tables.{rows, sender, receiver, kind}
+use Rattle.rules.specs.Tables.{sender, receiver, kind}
 use Rattle.rules.specs.Chains.{Link, Chain}
-use Rattle.rules.specs.Counting.{all_below, map_below}
-use Rattle.rules.proofs.Tests.{lt_or, by_test, true_false, false_true, and_left, and_right, and_both}
-use Rattle.rules.proofs.Counting.{all_below-at, map_below-at, map_below-length, replicate_at}
+use Rattle.rules.specs.Counting.{map_below}
+use Rattle.rules.proofs.Tests.{lt_or, by_test, true_false, false_true}
+use Rattle.rules.proofs.Counting.{map_below-at, map_below-length, replicate_at}
 use Rattle.rules.proofs.Chains.{Upto}
-use Rattle.planner.specs.Places.{row_of}
-use Rattle.planner.specs.declared.places.Row.{Row}
-use Rattle.planner.specs.Rounds.{Named, Marked, Stepped, unmarked, noted}
+use Rattle.planner.specs.Rounds.{Named, Marked, Stepped, noted}
 use Rattle.planner.proofs.Stored.{stored_at}
 
 -- ---------------------------------------------------------------------------------------------------------------------------
@@ -39,54 +34,6 @@ module _ (cw : List ℕ) (marks : List Bool) where
     long = refl;
     sound = λ j e. absurd (false_true (sym (replicate_at most_tasks j false) ∙ e));
     complete = λ q h x y. absurd (omega arith);
-  }
-
-  module _ (next : List Bool) (c : ℕ) (so : StepSoFar cw marks c next) where
-    skip : (Marked marks (sender cw c) → kind cw c ≡ 1 → ⊥) → StepSoFar cw marks (c + 1) next
-    skip off = record {
-      long = so.long;
-      sound = so.sound;
-      complete = below_more (λ (q : ℕ). Marked marks (sender cw q) → kind cw q ≡ 1 → Marked next (receiver cw q)) c so.complete
-          (λ a b. absurd (off a b));
-    }
-
-    mark :
-        c < rows cw → receiver cw c < most_tasks → Marked marks (sender cw c) → kind cw c ≡ 1
-        → StepSoFar cw marks (c + 1) (set next (receiver cw c) true)
-    mark hc hr a b = record {
-      long = length-set next (receiver cw c) true ∙ so.long;
-      sound = λ j e. ⊎_elim (λ w. (sender cw c, a, (c, hc, refl, sym w.0, b))) (λ w. so.sound j (sym w.1 ∙ e))
-          (stored_at next (receiver cw c) j true false ht);
-      complete = below_more (λ (q : ℕ). Marked marks (sender cw q) → kind cw q ≡ 1 → Marked (set next (receiver cw c) true) (receiver cw q)) c
-          (λ q h x y. ⊎_elim (λ w. w.1) (λ w. w.1 ∙ so.complete q h x y) (stored_at next (receiver cw c) (receiver cw q) true false ht))
-          (λ x y. get_or-set_same next (receiver cw c) true false ht);
-    }
-      where
-        ht : receiver cw c < length next
-        ht = omega (arith, so.long)
-
-    -- a turn, by the test of the row that was read
-    abbrev Test : Row → Bool
-    Test r = eqb r.kind 1 && get_or marks r.sender false
-
-    pub step-mark :
-        (r : Row) → r ≡ row_of cw c → c < rows cw → receiver cw c < most_tasks → Test r ≡ true
-        → StepSoFar cw marks (c + 1) (set next r.receiver true)
-    step-mark r e hc hr t =
-        let u : Test (row_of cw c) ≡ true = rw e at t in
-        rw e
-        (mark hc hr (and_right (eqb (kind cw c) 1) (get_or marks (sender cw c) false) u)
-        (eqb-true (kind cw c) 1 (and_left (eqb (kind cw c) 1) (get_or marks (sender cw c) false) u)))
-
-    pub step_skip : (r : Row) → r ≡ row_of cw c → Test r ≡ false → StepSoFar cw marks (c + 1) next
-    step_skip r e f =
-        let u : Test (row_of cw c) ≡ false = rw e at f in
-        skip (λ a k. true_false (sym (and_both (eqb (kind cw c) 1) (get_or marks (sender cw c) false) (eq-eqb (kind cw c) 1 k) a) ∙ u))
-
-  pub step-all : (next : List Bool) (c : ℕ) → rows cw ≤ c → StepSoFar cw marks c next → Stepped (Link cw) marks next
-  step-all next c past so = record {
-    sound = so.sound;
-    complete = λ h j a l. subst (λ (x : ℕ). Marked next x) l.3 (so.complete l.0 (omega (arith, l.1)) (rw l.2 a) l.4);
   }
 
 -- a connection leads to a task
@@ -147,7 +94,7 @@ module _ (E : ℕ → ℕ → Type 0) (i : ℕ) where
   -- where a round marks no task no chain is longer, and the row has the longest of all
   module _
       (k : ℕ) (marks next : List Bool) (best : List ℕ) (so : Rounds E i k marks best) (st : Stepped E marks next)
-      (ends : (h j : ℕ) → E h j → j < most_tasks) (none : all_below (unmarked next) most_tasks ≡ true)
+      (ends : (h j : ℕ) → E h j → j < most_tasks) (none : (j : ℕ) → j < most_tasks → Marked next j → ⊥)
     where
       over : (l j : ℕ) → k < l → Chain E l i j → ⊥
       over zero j h c = omega arith
@@ -156,7 +103,7 @@ module _ (E : ℕ → ℕ → Type 0) (i : ℕ) where
           (λ top.
           let e : l ≡ k = omega arith in
           let on = st.complete c.0 j (so.complete c.0 (subst (λ (x : ℕ). Chain E x i c.0) e c.1)) c.2 in
-          true_false (sym on ∙ not-true (get_or next j false) (all_below-at (unmarked next) most_tasks j none (ends c.0 j c.2))))
+          none j (ends c.0 j c.2) on)
           (lt_or k l)
 
       pub rounds_over : (n j : ℕ) → k ≤ n → j < most_tasks → Upto E n i j (get_or best j 0)

@@ -1,6 +1,6 @@
 -- The internal numbers, as they are worked out from the square of chain lengths: the least of a task's own and those of the tasks
 -- to which a chain leads.
-use Rattle.std.specs.Prelude.{◌≡◌, cond, ◌&&◌, List, [], ℕ, zero, suc, ◌-◌, ◌*◌, ◌≤◌, ◌<◌, get_or, ltb}
+use Rattle.std.specs.Prelude.{◌≡◌, cond, List, [], ℕ, zero, suc, ◌-◌, ◌*◌, ◌≤◌, ◌<◌, get_or, ltb, min}
 use Rattle.rules.specs.Sizes.{parts, most_tasks}
 use Rattle.rules.specs.Tables.{count, deadline, criticality}
 use Rattle.rules.specs.Counting.{column}
@@ -8,9 +8,9 @@ use Rattle.planner.specs.Multiples.{Sized}
 use Rattle.planner.specs.declared.internal.Numbers.{Numbers}
 use Rattle.planner.specs.declared.internal.Columns.{Columns}
 
--- x where a chain leads to it and it is below best; else best
+-- the lower of best and x where a chain leads to it; else best
 abbrev pub lower : ℕ → ℕ → ℕ → ℕ
-lower best chain x = cond (ltb 0 chain && ltb x best) x best
+lower best chain x = cond (ltb 0 chain) (min best x) best
 
 -- the least of own and each f j, for j below n with a chain to it
 abbrev pub least_of : ℕ → (ℕ → ℕ) → (ℕ → ℕ) → ℕ → ℕ

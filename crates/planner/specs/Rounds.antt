@@ -1,6 +1,6 @@
 -- The square of longest chains, as it is worked out: from each task in rounds, where a round marks the tasks to which one
 -- connection more leads.
-use Rattle.std.specs.Prelude.{◌≡◌, Bool, true, false, not, cond, List, [], ℕ, ◌<◌, get_or, ltb}
+use Rattle.std.specs.Prelude.{◌≡◌, Bool, true, false, cond, List, [], ℕ, ◌<◌, get_or, ltb}
 use Rattle.rules.specs.Sizes.{most_tasks}
 use Rattle.rules.specs.Tables.{rows, sender, receiver}
 use Rattle.rules.proofs.Chains.{Upto}
@@ -11,9 +11,6 @@ Named cw = (c : ℕ) → c < rows cw → (sender cw c < most_tasks) × (receiver
 
 abbrev pub Marked : List Bool → ℕ → Type 0
 Marked marks j = get_or marks j false ≡ true
-
-abbrev pub unmarked : List Bool → ℕ → Bool
-unmarked marks j = not (get_or marks j false)
 
 -- next marks exactly the tasks to which a connection leads from a marked one
 pub record Stepped (E : ℕ → ℕ → Type 0) (marks next : List Bool) : Type 0 where

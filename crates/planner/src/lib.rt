@@ -3,11 +3,11 @@
 
 ghost use Rattle.std.specs.Prelude.{◌≡◌};
 ghost use Rattle.rules.specs.Plan.{PlanIs};
-ghost use Rattle.rules.proofs.Refusals.{NoneUnder};
 ghost use Rattle.planner.specs.Internal.{Workable};
-ghost use Rattle.planner.specs.Stages.{refused_plan, WorkedOut};
+ghost use Rattle.planner.specs.Stages.{refused_plan, Clear, Checked, WorkedOut, Worked};
 
-use rules::{Plan, Verdict};
+use places::Tables;
+use rules::{Plan, Refusal};
 
 mod chains;
 mod internal;
@@ -15,15 +15,15 @@ mod multiple;
 mod order;
 mod places;
 
-// Zeros throughout, with the refusal's number and place.
-fn refused(number: usize, place: usize) -> Plan
-    ensures { result ≡ refused_plan number place }
+// Zeros throughout, with the refusal.
+fn refused(refusal: Refusal) -> Plan
+    ensures { result ≡ refused_plan refusal }
 {
     Plan {
-        verdict: Verdict::Refused(number, place),
-        order: [0u8; 32],
-        deadlines: [0u32; 32],
-        criticalities: [0u8; 32],
+        verdict: Err(refusal),
+        order: [0; 32],
+        deadlines: [0; 32],
+        criticalities: [0; 32],
         multiple: 0,
     }
 }
@@ -34,74 +34,79 @@ fn worked_out(tasks: &[u16], chains: &[[u8; 32]; 32], multiple: u32) -> Plan
     ensures { WorkedOut tasks.now chains.now multiple result }
 {
     let columns = internal::columns_of(tasks, chains);
-    let deadlines = columns.deadlines;
-    let criticalities = columns.criticalities;
-    let order = order::sort(&deadlines, &criticalities, tasks.len() / 5);
     Plan {
-        verdict: Verdict::Accepted,
-        order,
-        deadlines,
-        criticalities,
+        verdict: Ok(()),
+        order: order::sort(&columns, tasks.len() / 5),
+        deadlines: columns.deadlines,
+        criticalities: columns.criticalities,
         multiple,
     }
 }
 
-// Refusals 5 to 8, and the plan where none stands.
-fn plan_chains(tasks: &[u16], connections: &[u16]) -> Plan
-    requires { NoneUnder tasks.now connections.now 5 }
-    ensures { PlanIs tasks.now connections.now result }
+// Refusals 1 and 2, by the lengths.
+fn check_lengths(tables: Tables) -> Result<(), Refusal>
+    ensures { Checked tables.entry 3 result }
 {
-    let count = tasks.len() / 5;
-    let rows = connections.len() / 3;
-    let uneven = places::first_place(tasks, connections, 5, rows);
-    if uneven < rows {
-        return refused(5, uneven);
+    let words = tables.tasks.len();
+    if (words % 5 != 0) | (words == 0) | (160 < words) {
+        return Err(Refusal::TaskWords);
     }
-    let chains = chains::square(connections, count as u8);
-    let circle = chains::first_circle(&chains, count);
-    if circle < count {
-        return refused(6, circle);
+    let words = tables.connections.len();
+    if (words % 3 != 0) | (192 < words) {
+        return Err(Refusal::ConnectionWords);
     }
-    let raised = places::first_place(tasks, connections, 7, rows);
-    if raised < rows {
-        return refused(7, raised);
-    }
-    let multiple = multiple::multiple_of(tasks);
-    if multiple == 0 {
-        return refused(8, 0);
-    }
-    worked_out(tasks, &chains, multiple)
+    Ok(())
 }
 
-// Refusals 3 and 4, and what follows.
-fn plan_rows(tasks: &[u16], connections: &[u16]) -> Plan
-    requires { NoneUnder tasks.now connections.now 3 }
-    ensures { PlanIs tasks.now connections.now result }
+// Refusals 3 and 4, by each task and row.
+fn check_values(tables: Tables) -> Result<(), Refusal>
+    requires { Clear tables 3 }
+    ensures { Checked tables.entry 5 result }
 {
-    let count = tasks.len() / 5;
-    let rows = connections.len() / 3;
-    let unfit = places::first_place(tasks, connections, 3, count);
-    if unfit < count {
-        return refused(3, unfit);
+    if let Some(task) = tables.first_misfit() {
+        return Err(Refusal::TaskValue(task));
     }
-    let unjoined = places::first_place(tasks, connections, 4, rows);
-    if unjoined < rows {
-        return refused(4, unjoined);
+    if let Some(row) = tables.first_stray() {
+        return Err(Refusal::ConnectionValue(row));
     }
-    plan_chains(tasks, connections)
+    Ok(())
+}
+
+// Refusals 5 to 8, and the plan where none stands.
+fn plan_chains(tables: Tables) -> Result<Plan, Refusal>
+    requires { Clear tables 5 }
+    ensures { Worked tables.entry result }
+{
+    let count = tables.count();
+    if let Some(row) = tables.first_uneven() {
+        return Err(Refusal::Uneven(row));
+    }
+    let chains = chains::square(tables.connections, count as u8);
+    if let Some(task) = chains::first_circle(&chains, count) {
+        return Err(Refusal::Circle(task));
+    }
+    if let Some(row) = tables.first_raised() {
+        return Err(Refusal::Raised(row));
+    }
+    let multiple = multiple::multiple_of(tables.tasks).ok_or(Refusal::Multiple)?;
+    Ok(worked_out(tables.tasks, &chains, multiple))
+}
+
+// The plan, or the first refusal.
+fn planned(tables: Tables) -> Result<Plan, Refusal>
+    ensures { Worked tables.entry result }
+{
+    check_lengths(tables)?;
+    check_values(tables)?;
+    plan_chains(tables)
 }
 
 // The plan of any two tables.
 pub fn plan(tasks: &[u16], connections: &[u16]) -> Plan
     ensures { PlanIs tasks.now connections.now result }
 {
-    let words = tasks.len();
-    if (words % 5 != 0) | (words == 0) | (160 < words) {
-        return refused(1, 0);
+    match planned(Tables { tasks, connections }) {
+        Ok(plan) => plan,
+        Err(refusal) => refused(refusal),
     }
-    let more = connections.len();
-    if (more % 3 != 0) | (192 < more) {
-        return refused(2, 0);
-    }
-    plan_rows(tasks, connections)
 }

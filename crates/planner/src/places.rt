@@ -1,75 +1,33 @@
-// The rows of the two tables, and where the refusals 3, 4, 5 and 7 stand.
-ghost use Rattle.std.specs.Prelude.{◌≡◌, ℕ, ◌<◌};
-ghost use Rattle.rules.specs.Counting.{first_of};
+// The two tables, and where the refusals 3, 4, 5 and 7 stand in them.
+ghost use Rattle.std.specs.Prelude.{◌≡◌, ◌<◌};
 ghost use Rattle.rules.specs.Tables.{count, rows};
-ghost use Rattle.planner.specs.Places.{values_of, row_of, fit, joins, uneven, raised, stands, Readable};
+ghost use Rattle.planner.specs.Places.{fit, joins, uneven, raised, sender_of, receiver_of, Joined, AllJoined, IsFirst, misfit_at, stray_at, uneven_at, raised_at};
 
-// The five words of a task, and the three of a connection row.
-#[derive(Clone, Copy)]
-pub(crate) struct Values {
-    pub(crate) period: u16,
-    pub(crate) deadline: u16,
-    pub(crate) compute: u16,
-    pub(crate) criticality: u16,
-    pub(crate) flag: u16,
-}
-
-#[derive(Clone, Copy)]
-pub(crate) struct Row {
-    pub(crate) sender: u16,
-    pub(crate) receiver: u16,
-    pub(crate) kind: u16,
-}
-
-// Task i of the table.
-pub(crate) fn task_at(tasks: &[u16], i: usize) -> Values
-    requires { i < count tasks.now }
-    ensures { result ≡ values_of tasks.now i }
-{
-    Values {
-        period: tasks[i * 5],
-        deadline: tasks[i * 5 + 1],
-        compute: tasks[i * 5 + 2],
-        criticality: tasks[i * 5 + 3],
-        flag: tasks[i * 5 + 4],
-    }
-}
-
-// Row c of the table.
-pub(crate) fn row_at(connections: &[u16], c: usize) -> Row
-    requires { c < rows connections.now }
-    ensures { result ≡ row_of connections.now c }
-{
-    Row {
-        sender: connections[c * 3],
-        receiver: connections[c * 3 + 1],
-        kind: connections[c * 3 + 2],
-    }
-}
+use rules::{ConnectionRow, TaskRow};
 
 // Whether a task's values are within their sizes.
-fn fit(v: Values) -> bool
-    ensures { result ≡ fit v }
+fn fit(task: TaskRow) -> bool
+    ensures { result ≡ fit task }
 {
-    (1 <= v.period)
-        & (v.period <= 10000)
-        & (1 <= v.deadline)
-        & (v.deadline <= v.period)
-        & (1 <= v.compute)
-        & (v.compute <= v.deadline)
-        & (v.criticality <= 255)
-        & (v.flag <= 1)
+    (1 <= task.period)
+        & (task.period <= 10000)
+        & (1 <= task.deadline)
+        & (task.deadline <= task.period)
+        & (1 <= task.compute)
+        & (task.compute <= task.deadline)
+        & (task.criticality <= 255)
+        & (task.flag <= 1)
 }
 
 // Whether a row joins two of so many tasks, by a known kind.
-fn joins(r: Row, count: usize) -> bool
-    ensures { result ≡ joins r count }
+fn joins(row: ConnectionRow, count: usize) -> bool
+    ensures { result ≡ joins row count }
 {
-    ((r.sender as usize) < count) & ((r.receiver as usize) < count) & (r.kind <= 1)
+    ((row.sender as usize) < count) & ((row.receiver as usize) < count) & (row.kind <= 1)
 }
 
 // Whether neither period divides the other.
-fn uneven(from: Values, to: Values) -> bool
+fn uneven(from: TaskRow, to: TaskRow) -> bool
     requires { (0 < from.period) × (0 < to.period) }
     ensures { result ≡ uneven from to }
 {
@@ -77,43 +35,90 @@ fn uneven(from: Values, to: Values) -> bool
 }
 
 // Whether the sender is less critical than the receiver, with its flag 0.
-fn raised(from: Values, to: Values) -> bool
+fn raised(from: TaskRow, to: TaskRow) -> bool
     ensures { result ≡ raised from to }
 {
     (to.criticality < from.criticality) & (from.flag == 0)
 }
 
-// Whether the refusal of this number, 3, 4, 5 or 7, stands at place p.
-fn stands(tasks: &[u16], connections: &[u16], number: usize, p: usize) -> bool
-    requires { Readable tasks.now connections.now number p }
-    ensures { result ≡ stands tasks.now connections.now number p }
-{
-    if number == 3 {
-        return !fit(task_at(tasks, p));
-    }
-    let r = row_at(connections, p);
-    if number == 4 {
-        return !joins(r, tasks.len() / 5);
-    }
-    let from = task_at(tasks, r.sender as usize);
-    let to = task_at(tasks, r.receiver as usize);
-    if number == 5 {
-        return (r.kind == 1) & uneven(from, to);
-    }
-    (r.kind == 1) & raised(from, to)
+// Both tables, as they are lent.
+#[derive(Clone, Copy)]
+pub(crate) struct Tables<'a> {
+    pub(crate) tasks: &'a [u16],
+    pub(crate) connections: &'a [u16],
 }
 
-// The first place below n where it stands; n where there is none.
-pub(crate) fn first_place(tasks: &[u16], connections: &[u16], number: usize, n: usize) -> usize
-    requires { (p : ℕ) → p < n → Readable tasks.now connections.now number p }
-    ensures { result ≡ first_of (stands tasks.now connections.now number) n }
-{
-    let mut p: usize = 0;
-    while p < n {
-        if stands(tasks, connections, number, p) {
-            return p;
-        }
-        p += 1;
+impl Tables<'_> {
+    pub(crate) fn count(self) -> usize
+        ensures { result ≡ count self.entry.tasks.now }
+    {
+        self.tasks.len() / 5
     }
-    p
+
+    fn rows(self) -> usize
+        ensures { result ≡ rows self.entry.connections.now }
+    {
+        self.connections.len() / 3
+    }
+
+    // The sender and the receiver of row c.
+    fn ends(self, c: usize) -> (TaskRow, TaskRow)
+        requires { Joined self c }
+        ensures sender { result.0 ≡ sender_of self.entry c }
+        ensures receiver { result.1 ≡ receiver_of self.entry c }
+    {
+        let row = ConnectionRow::at(self.connections, c);
+        (
+            TaskRow::at(self.tasks, row.sender as usize),
+            TaskRow::at(self.tasks, row.receiver as usize),
+        )
+    }
+
+    // Whether row c is undelayed, with neither period dividing the other.
+    fn is_uneven(self, c: usize) -> bool
+        requires { Joined self c }
+        ensures { result ≡ uneven_at self.entry c }
+    {
+        let (from, to) = self.ends(c);
+        (ConnectionRow::at(self.connections, c).kind == 1) & uneven(from, to)
+    }
+
+    fn is_raised(self, c: usize) -> bool
+        requires { Joined self c }
+        ensures { result ≡ raised_at self.entry c }
+    {
+        let (from, to) = self.ends(c);
+        (ConnectionRow::at(self.connections, c).kind == 1) & raised(from, to)
+    }
+
+    // Where 3 stands: the first task with a value outside its size.
+    pub(crate) fn first_misfit(self) -> Option<usize>
+        ensures { IsFirst (misfit_at self.entry) (count self.entry.tasks.now) result }
+    {
+        (0..self.count()).find(|i| !fit(TaskRow::at(self.tasks, *i)))
+    }
+
+    // Where 4 stands: the first row that joins no two tasks by a known kind.
+    pub(crate) fn first_stray(self) -> Option<usize>
+        ensures { IsFirst (stray_at self.entry) (rows self.entry.connections.now) result }
+    {
+        let count = self.count();
+        (0..self.rows()).find(|c| !joins(ConnectionRow::at(self.connections, *c), count))
+    }
+
+    // Where 5 stands: the first undelayed row with neither period dividing the other.
+    pub(crate) fn first_uneven(self) -> Option<usize>
+        requires { AllJoined self }
+        ensures { IsFirst (uneven_at self.entry) (rows self.entry.connections.now) result }
+    {
+        (0..self.rows()).find(|c| self.is_uneven(*c))
+    }
+
+    // Where 7 stands: the first undelayed row from a less critical task, with its flag 0, to a more critical one.
+    pub(crate) fn first_raised(self) -> Option<usize>
+        requires { AllJoined self }
+        ensures { IsFirst (raised_at self.entry) (rows self.entry.connections.now) result }
+    {
+        (0..self.rows()).find(|c| self.is_raised(*c))
+    }
 }

@@ -10,6 +10,10 @@ ghost use Rattle.reader.specs.Read.{stored, PassIs, ReadIs};
 
 use rules::{ConnectionRow, Counts, Refusal, TaskRow};
 
+mod tables;
+
+pub use tables::Tables;
+
 // What stands at one place of the file: a record, or the file's end.
 #[derive(Clone, Copy, Debug, PartialEq, Eq)]
 enum Item {

@@ -32,8 +32,8 @@ whole_append m a b = rw (text-append m a b, after-append m a b) (append_assoc (t
 served_whole : {d : Desk} {pieces : List (List ℕ)} {printed : List ℕ} → AllServed d pieces printed → printed ≡ whole (moment_of d) (flatten pieces)
 unfolding flatten text after
 served_whole (ended room f) = put_front f room
-served_whole {d} (piece {bytes = bytes} {pieces = pieces} room s e more) =
-    cc (put_front s.lines room, served_whole more, e, s.desk, whole_append (moment_of d) bytes (flatten pieces))
+served_whole {d} (piece {bytes = bytes} {pieces = pieces} room s more) =
+    cc (put_front s.lines room, served_whole more, s.desk, whole_append (moment_of d) bytes (flatten pieces))
 
 says_line : {a : Answer} {printed : List ℕ} → Says a printed → printed ≡ answer_line a
 says_line {a} (line room l) = put_front (line_put most_answer (answer_length a) room l) room
@@ -49,7 +49,7 @@ module _ (r : Step) (input printed : List ℕ) where
   run_text_lem answer.Idle alone answered = answered refl ∙ session_bytes r.state input
   run_text_lem (answer.Running i) alone answered = alone (λ e. omega (arith, ap kind e))
   run_text_lem (answer.Missed i) alone answered = alone (λ e. omega (arith, ap kind e))
-  run_text_lem (answer.Refused n p) alone answered = alone (λ e. omega (arith, ap kind e))
+  run_text_lem (answer.Refused f) alone answered = alone (λ e. omega (arith, ap kind e))
 
 -- accepted or refused, with 643 bytes of the file read or more, and in whatever pieces the input came: a run prints what 01 says
 pub run_served : (m : ℕ) (file : List ℕ) {pieces : List (List ℕ)} {printed : List ℕ} → decisive ≤ m → Ran (take m file) pieces printed → RunIs file (flatten pieces) printed

@@ -1,12 +1,15 @@
 -- One byte more of a piece: the desk is the moment behind the bytes so far, and what they print stands in front of the buffer, 50 bytes at
 -- most for each of them.
 use mathlib.Core.Path.{◌≡◌, refl, sym, subst, ◌∙◌}
-use mathlib.Core.List.{List, [], append-nil}
+use mathlib.Core.Bool.{true, false}
+use mathlib.Core.List.{List, [], ◌∷◌, append-nil}
+use lib.Dec.{eqb}
+use Rattle.rules.proofs.Tests.{false_true}
 use Prim.Native.Nat.{ℕ, ◌+◌, ◌*◌, ◌≤◌, ◌<◌}
 use native.Mathlib.Omega.{arith}
 use lib.ListN.{length, take, get_or}
 use lib.Seq.{take_all}
-use borrow.Author.Tests.{eq-eqb, ne_eqb, lt-ltb}
+use borrow.Author.Tests.{eqb-true, eq-eqb, ne_eqb, lt-ltb}
 use Rattle.rules.specs.Answers.{StepIs}
 use Rattle.rules.specs.declared.State.{State}
 use Rattle.rules.specs.declared.Step.{Step}
@@ -17,7 +20,6 @@ use Rattle.text.specs.Buffers.{Put}
 use Rattle.text.proofs.Filling.{put_none, put_then, put_more}
 use Rattle.step.specs.Session.{said, obeyed, keeping, Moment, moment, answered, next, printed, after, text, last}
 use Rattle.step.specs.Serving.{Prints}
-use Rattle.step.specs.declared.serving.Obeyed.{Obeyed}
 use Rattle.step.proofs.Sessions.{after_more, text-more}
 
 pub record Turn (bytes out₀ : List ℕ) (m : Moment) (out : List ℕ) (state : State) (line : List ℕ) (end i : ℕ) : Type 0 where
@@ -51,8 +53,8 @@ module _ {bytes out₀ out : List ℕ} {m : Moment} {state : State} {line : List
   abbrev b : ℕ
   b = get_or bytes i 0
 
-  pub turn_ends : (out' line' : List ℕ) (r : Obeyed) → b ≡ 10 → Prints (obeyed state (call_of line)) out end r out' → length out' ≡ length out → line' ≡ [] → Turn bytes out₀ m out' r.state line' r.end (i + 1)
-  turn_ends out' line' r e p kept none = record {
+  pub turn_ends : (out' line' : List ℕ) (state' : State) (r : ℕ) → b ≡ 10 → Prints (obeyed state (call_of line)) out end state' r out' → length out' ≡ length out → line' ≡ [] → Turn bytes out₀ m out' state' line' r (i + 1)
+  turn_ends out' line' state' r e p kept none = record {
     within = omega arith;
     room = kept ∙ t.room;
     here = rw (none, p.state, after_more m bytes i more, sym t.here) (sym (next-ends (moment state line) b e));
@@ -77,15 +79,17 @@ turn_done {bytes} {i = i} t h =
     (rw e at t.here, put_more (omega (arith, t.within)) (rw e at t.lines))
 
 -- an answer of the executive that is the one wanted
-pub prints_step : (want r : Step) {out out' : List ℕ} {at : ℕ} {x : Obeyed} → StepIs want r → Prints (said r.state (answer_line r.answer)) out at x out' → Prints (said want.state (answer_line want.answer)) out at x out'
-prints_step want r {out} {out'} {at} {x} h p =
-    subst (λ (s : Step). Prints (said s.state (answer_line s.answer)) out at x out') (step_is want r h) p
+pub prints_step : (want r : Step) {out out' : List ℕ} {at x : ℕ} {z : State} → StepIs want r → Prints (said r.state (answer_line r.answer)) out at z x out' → Prints (said want.state (answer_line want.answer)) out at z x out'
+prints_step want r {out} {out'} {at} {x} {z} h p =
+    subst (λ (s : Step). Prints (said s.state (answer_line s.answer)) out at z x out') (step_is want r h) p
 
 -- the input's end, with no byte of a line and with some
-pub finish_none : (s : State) (l out : List ℕ) (n : ℕ) → n ≡ 0 → Put 50 out 0 (last (moment s (take n l))) 0 out
+pub finish_none : (s : State) (line out : List ℕ) → eqb (length line) 0 ≡ true → Put 50 out 0 (last (moment s line)) 0 out
 unfolding last
-finish_none s l out n e = rw e (put_more (omega arith) (put_none out 0))
+finish_none s [] out e = put_more (omega arith) (put_none out 0)
+finish_none s (x ∷ line) out e = let z = eqb-true (length (x ∷ line)) 0 e in absurd (omega arith)
 
-pub finish_line : (s : State) (line : List ℕ) → 0 < length line → last (moment s line) ≡ (obeyed s (call_of line)).line
+pub finish_line : (s : State) (line : List ℕ) → eqb (length line) 0 ≡ false → last (moment s line) ≡ (obeyed s (call_of line)).line
 unfolding last
-finish_line s line h = rw (lt-ltb 0 (length line) h)
+finish_line s [] e = absurd (false_true (sym e))
+finish_line s (x ∷ line) e = rw (lt-ltb 0 (length (x ∷ line)) (omega arith))

@@ -10,7 +10,6 @@ use Rattle.step.specs.Session.{moment}
 use Rattle.step.specs.Opening.{OpenIs}
 use Rattle.step.specs.Serving.{moment_of, Serves, Finishes}
 use Rattle.step.specs.declared.serving.Desk.{Desk}
-use Rattle.step.specs.declared.serving.Served.{Served}
 
 -- an answer's line was put in front of a buffer with room for it, and as many bytes of the buffer were printed
 pub data Says (a : Answer) : List ℕ → Type 0 where
@@ -20,9 +19,8 @@ pub data Says (a : Answer) : List ℕ → Type 0 where
 -- `finish` said; a piece finds the moment that the one before it left
 pub data AllServed : Desk → List (List ℕ) → List ℕ → Type 0 where
   ended : {d : Desk} {out out' : List ℕ} {n : ℕ} → 50 ≤ length out → Finishes d out n out' → AllServed d [] (take n out')
-  piece : {d d' : Desk} {r : Served} {bytes out out' more : List ℕ} {pieces : List (List ℕ)} →
-      50 * length bytes ≤ length out → Serves d bytes out r out' → moment_of d' ≡ moment_of r.desk →
-      AllServed d' pieces more → AllServed d (bytes ∷ pieces) (take r.end out' ++ more)
+  piece : {d d' : Desk} {r : ℕ} {bytes out out' more : List ℕ} {pieces : List (List ℕ)} →
+      50 * length bytes ≤ length out → Serves d bytes out d' r out' → AllServed d' pieces more → AllServed d (bytes ∷ pieces) (take r out' ++ more)
 
 -- the whole run, where these bytes of the machine file were read, and the input came in these pieces
 pub record Ran (seen : List ℕ) (pieces : List (List ℕ)) (printed : List ℕ) : Type 0 where

@@ -1,11 +1,13 @@
 -- 01: "Standard input has one call a line .. For each it prints `running` and a task, `idle`, `missed` and a task, or `refused`, number
 -- and place; any other line prints `bad line` and changes nothing."
-use Rattle.std.specs.Prelude.{Bool, cond, List, [], ◌∷◌, ◌++◌, ℕ, length, take, ltb, eqb}
+use Rattle.std.specs.Prelude.{Bool, cond, List, [], ◌∷◌, ◌++◌, ℕ, length, take, ltb, eqb, Result, Ok, Err}
 use Rattle.rules.specs.Calls.{tick_of, complete_of}
 use Rattle.rules.specs.declared.State.{State}
+use Rattle.rules.specs.declared.Step.{Step}
 use Rattle.calls.specs.Line.{call_of}
 use Rattle.calls.specs.declared.Call.{Call}
-use Rattle.calls.specs.declared.Call.TheVariants.{Tick, Complete, Bad}
+use Rattle.calls.specs.declared.Call.TheVariants.{Tick, Complete}
+use Rattle.calls.specs.declared.BadLine.{BadLine}
 use Rattle.text.specs.Lines.{answer_line, bad_line}
 
 -- a call was answered: the state behind it, and the line that is printed
@@ -16,10 +18,13 @@ pub record Said : Type 0 where
 abbrev pub said : State → List ℕ → Said
 said s l = record { state = s; line = l }
 
-unfoldable pub obeyed : State → Call → Said
-obeyed s Tick = said (tick_of s).state (answer_line (tick_of s).answer)
-obeyed s (Complete w) = said (complete_of s w).state (answer_line (complete_of s w).answer)
-obeyed s Bad = said s bad_line
+abbrev pub step_of : State → Call → Step
+step_of s Tick = tick_of s
+step_of s (Complete w) = complete_of s w
+
+unfoldable pub obeyed : State → Result Call BadLine → Said
+obeyed s (Ok call) = said (step_of s call).state (answer_line (step_of s call).answer)
+obeyed s (Err _) = said s bad_line
 
 -- a line ends at byte 10; a last line without it counts if it has a byte
 abbrev pub ends : ℕ → Bool

@@ -1,50 +1,60 @@
 // The front of a line that has not ended: 13 bytes decide what any line asks for.
-ghost use Rattle.std.specs.Prelude.{◌≡◌, []};
+ghost use Rattle.std.specs.Prelude.{◌≡◌, [], length, eqb};
 ghost use Rattle.calls.specs.Line.{call_of};
 ghost use Rattle.step.specs.Session.{keeping};
-ghost use Rattle.step.specs.Serving.{held};
 
-#[derive(Clone, Copy)]
+use calls::{BadLine, Call};
+use std::marker::Model;
+
+#[derive(Drop)]
 pub(crate) struct Held {
-    pub(crate) bytes: [u8; 13],
-    pub(crate) count: usize,
+    bytes: [u8; 13],
+    count: usize,
 }
 
-// No byte of a line.
-pub(crate) fn nothing() -> Held
-    ensures { held result ≡ [] }
-{
-    let bytes = [0u8; 13];
-    Held { bytes, count: 0 }
+// Clauses see the bytes that are kept.
+impl Model for Held {
+    ghost use Rattle.std.specs.Prelude.{List, ℕ, ◌≤◌, take};
+
+    ghost Value = { List ℕ };
+
+    ghost view = { λ h. take h.count h.bytes };
+
+    ghost invariant = { λ h. h.count ≤ 13 };
 }
 
-// One byte more of the line.
-#[tactic(auto, using(crate::proofs::Lines::keep_full))]
-pub(crate) fn keep(h: Held, b: u8) -> Held
-    ensures { held result ≡ keeping (held h) b }
-{
-    let count = h.count;
-    let mut bytes = h.bytes;
-    if count < 13 {
-        bytes[count] = b;
+impl Held {
+    // No byte of a line.
+    pub(crate) fn new() -> Held
+        ensures { result ≡ [] }
+    {
         Held {
-            bytes,
-            count: count + 1,
+            bytes: [0; 13],
+            count: 0,
         }
-    } else {
-        h
     }
-}
 
-// What the line asks for.
-pub(crate) fn asked(h: Held) -> calls::Call
-    ensures { result ≡ call_of (held h) }
-{
-    let count = h.count;
-    let bytes = h.bytes;
-    if count <= 13 {
-        calls::call_of(&bytes[..count])
-    } else {
-        calls::call_of(&bytes)
+    // One byte more of the line.
+    #[tactic(auto, using(crate::proofs::Lines::keep_room, crate::proofs::Lines::keep_full))]
+    pub(crate) fn keep(&mut self, byte: u8)
+        ensures { self.new ≡ keeping self.old byte }
+    {
+        if self.count < 13 {
+            self.bytes[self.count] = byte;
+            self.count += 1;
+        }
+    }
+
+    pub(crate) fn is_empty(&self) -> bool
+        ensures { result ≡ eqb (length self.now) 0 }
+    {
+        self.count == 0
+    }
+
+    // What the line asks for.
+    pub(crate) fn asked(&self) -> Result<Call, BadLine>
+        ensures { result ≡ call_of self.now }
+    {
+        calls::call_of(&self.bytes[..self.count])
     }
 }

@@ -4,7 +4,8 @@
 
 ghost use Rattle.io.specs.Counts.{IsPrefixLen};
 
-use rules::Answer;
+use held::Held;
+use rules::{Answer, State};
 use serving::Desk;
 use std::env::Env;
 use std::fs;
@@ -31,48 +32,36 @@ fn load(rt: &HostRuntime, file: &mut [u8; 4096]) -> usize
     streams::read_full(&mut opened, file)
 }
 
-fn say(rt: &HostRuntime, answer: Answer) -> bool {
+fn say(rt: &HostRuntime, answer: Answer) {
     let mut out = io::buffer();
     let n = text::answer_line(answer, &mut out, 0);
-    rt.stdout().write_all(&out[..n]).is_ok()
+    let _ = rt.stdout().write_all(&out[..n]);
 }
 
-// One turn: a piece of the input, whose calls are answered before the next is read. The input's end ends the last line.
-fn turn(rt: &HostRuntime, desk: Desk) -> Desk {
+// One turn: a piece of the input, whose calls are answered before the next is read. The input's end, no byte, ends the last line.
+fn turn(rt: &HostRuntime, desk: &mut Desk) -> std::io::Result<usize> {
     let mut bytes = [0u8; 1024];
     let mut out = [0u8; 51200];
     let n = streams::read_some(&mut rt.stdin(), &mut bytes);
-    if n == 0 {
-        let end = serving::finish(desk, &mut out);
-        let _ = rt.stdout().write_all(&out[..end]);
-        let state = desk.state;
-        let line = desk.line;
-        return Desk {
-            state,
-            line,
-            going: false,
-        };
-    }
-    let served = serving::serve(desk, &bytes[..n], &mut out);
-    let end = served.end;
-    let going = rt.stdout().write_all(&out[..end]).is_ok();
-    let next = served.desk;
-    let state = next.state;
-    let line = next.line;
-    Desk { state, line, going }
+    let end = if n == 0 {
+        desk.finish(&mut out)
+    } else {
+        desk.serve(&bytes[..n], &mut out)
+    };
+    rt.stdout().write_all(&out[..end])?;
+    Ok(n)
 }
 
-// Each turn but the last takes a byte at least: no run has 2^64 - 1 of them.
-fn run(rt: &HostRuntime, start: Desk) {
-    let mut desk = start;
-    let mut turns = u64::MAX;
-    while turns > 0 {
-        desk = turn(rt, desk);
-        let going = desk.going;
-        if !going {
+// It goes on until the input has ended or a write has failed. Each turn but the last takes a byte at least: no run has 2^64 - 1 of them.
+fn run(rt: &HostRuntime, state: State) {
+    let mut desk = Desk {
+        state,
+        line: Held::new(),
+    };
+    for _ in 0..u64::MAX {
+        let Ok(1..) = turn(rt, &mut desk) else {
             return;
-        }
-        turns -= 1;
+        };
     }
 }
 
@@ -80,18 +69,9 @@ fn main(rt: HostRuntime) {
     let mut file = io::buffer();
     let n = load(&rt, &mut file);
     let start = opening::opened(&file[..n]);
-    let answer = start.answer;
-    let Answer::Idle = answer else {
-        say(&rt, answer);
+    let Answer::Idle = start.answer else {
+        say(&rt, start.answer);
         return;
     };
-    let state = start.state;
-    run(
-        &rt,
-        Desk {
-            state,
-            line: held::nothing(),
-            going: true,
-        },
-    );
+    run(&rt, start.state);
 }

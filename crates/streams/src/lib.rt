@@ -8,7 +8,8 @@ ghost use Rattle.io.specs.Counts.{IsPrefixLen};
 use std::io::Read;
 
 // Reads until the buffer is full, the input ends or a read fails, and answers how many bytes it put at the buffer's start: the
-// stream's next ones, in order and with none lost.
+// stream's next ones, in order and with none lost. Not by std's `read_exact`, which says nothing of the bytes that it got where the
+// input ends first.
 pub fn read_full<R: Read>(from: &mut R, buf: &mut [u8]) -> usize
     ensures prefix_len { IsPrefixLen result buf.new }
     ensures bytes { Consumes (R.remaining from.old) (R.remaining from.new) (take result buf.new) }
@@ -29,8 +30,5 @@ pub fn read_some<R: Read>(from: &mut R, buf: &mut [u8]) -> usize
     ensures prefix_len { IsPrefixLen result buf.new }
     ensures bytes { Consumes (R.remaining from.old) (R.remaining from.new) (take result buf.new) }
 {
-    match from.read(buf) {
-        Ok(n) => n,
-        Err(_) => 0,
-    }
+    from.read(buf).unwrap_or(0)
 }

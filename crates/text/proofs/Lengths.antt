@@ -4,9 +4,10 @@ use Prim.Native.Nat.{ℕ, ◌+◌, ◌≤◌}
 use native.Mathlib.Omega.{arith}
 use lib.ListN.{length, length-append}
 use borrow.Author.Tests.{le-leb}
+use Rattle.rules.specs.Answers.{number_of, place_of}
 use Rattle.rules.specs.declared.Answer.{Answer}
 use Rattle.rules.specs.declared.Answer.TheVariants as answer
-use Rattle.text.specs.Lines.{answer_line, table_row}
+use Rattle.text.specs.Lines.{answer_line, refused_line, table_row}
 use Rattle.text.specs.Buffers.{Put, Line}
 use Rattle.text.proofs.Digits.{decimal-length}
 
@@ -17,12 +18,15 @@ most_answer = 50
 abbrev pub most_row : ℕ
 most_row = 84
 
+pub refusal_length : (number place : ℕ) → length (refused_line number place) ≤ most_answer
+refusal_length number place = simp length-append (omega (arith, decimal-length number, decimal-length place))
+
 pub answer_length : (a : Answer) → length (answer_line a) ≤ most_answer
 unfolding answer_line
 answer_length (answer.Running i) = simp length-append (omega (arith, decimal-length i))
 answer_length answer.Idle = omega arith
 answer_length (answer.Missed i) = simp length-append (omega (arith, decimal-length i))
-answer_length (answer.Refused n p) = simp length-append (omega (arith, decimal-length n, decimal-length p))
+answer_length (answer.Refused f) = refusal_length (number_of f) (place_of f)
 
 pub row_length : (place task deadline criticality : ℕ) → length (table_row place task deadline criticality) ≤ most_row
 row_length place task deadline criticality =

@@ -1,5 +1,6 @@
 -- 01, "Numbers from the bench": the lines of the two programs, in ASCII.
-use Rattle.std.specs.Prelude.{cond, List, [], ◌∷◌, ◌++◌, ℕ, zero, suc, ◌+◌, ◌/◌, ◌%◌, ltb}
+use Rattle.std.specs.Prelude.{cond, List, [], ◌∷◌, ◌++◌, ℕ, zero, suc, ◌+◌, ◌/◌, ◌%◌, ltb, codes}
+use Rattle.rules.specs.Answers.{number_of, place_of}
 use Rattle.rules.specs.declared.Answer.{Answer}
 use Rattle.rules.specs.declared.Answer.TheVariants as answer
 
@@ -21,33 +22,34 @@ newline = 10 ∷ []
 
 -- `running`, `idle`, `missed`, `refused`
 abbrev pub running : List ℕ
-running = 114 ∷ 117 ∷ 110 ∷ 110 ∷ 105 ∷ 110 ∷ 103 ∷ []
+running = codes "running"
 
 abbrev pub idle : List ℕ
-idle = 105 ∷ 100 ∷ 108 ∷ 101 ∷ []
+idle = codes "idle"
 
 abbrev pub missed : List ℕ
-missed = 109 ∷ 105 ∷ 115 ∷ 115 ∷ 101 ∷ 100 ∷ []
+missed = codes "missed"
 
 abbrev pub refused : List ℕ
-refused = 114 ∷ 101 ∷ 102 ∷ 117 ∷ 115 ∷ 101 ∷ 100 ∷ []
+refused = codes "refused"
+
+abbrev pub refused_line : ℕ → ℕ → List ℕ
+refused_line number place = refused ++ spaced number ++ spaced place ++ newline
 
 -- "`running` and a task, `idle`, `missed` and a task, or `refused`, number and place"
 unfoldable pub answer_line : Answer → List ℕ
 answer_line (answer.Running i) = running ++ spaced i ++ newline
 answer_line answer.Idle = idle ++ newline
 answer_line (answer.Missed i) = missed ++ spaced i ++ newline
-answer_line (answer.Refused n p) = refused ++ spaced n ++ spaced p ++ newline
+answer_line (answer.Refused f) = refused_line (number_of f) (place_of f)
 
 -- "any other line prints `bad line`"
 abbrev pub bad_line : List ℕ
-bad_line = 98 ∷ 97 ∷ 100 ∷ 32 ∷ 108 ∷ 105 ∷ 110 ∷ 101 ∷ newline
+bad_line = codes "bad line" ++ newline
 
 -- `place task deadline criticality`
 abbrev pub table_head : List ℕ
-table_head =
-    112 ∷ 108 ∷ 97 ∷ 99 ∷ 101 ∷ 32 ∷ 116 ∷ 97 ∷ 115 ∷ 107 ∷ 32 ∷ 100 ∷ 101 ∷ 97 ∷ 100 ∷ 108 ∷ 105 ∷ 110 ∷ 101
-    ∷ 32 ∷ 99 ∷ 114 ∷ 105 ∷ 116 ∷ 105 ∷ 99 ∷ 97 ∷ 108 ∷ 105 ∷ 116 ∷ 121 ∷ newline
+table_head = codes "place task deadline criticality" ++ newline
 
 -- "(place from 1, task, internal deadline, internal criticality)"
 abbrev pub table_row : ℕ → ℕ → ℕ → ℕ → List ℕ

@@ -1,30 +1,19 @@
--- Too few words, words that encode no state, or the call on the state that they encode.
-use Rattle.std.proofs.Common.{◌<◌, sym, ◌∙◌, get_or, rules}
-use borrow.Author.Tests.{not-true, not-false}
+-- A completion keeps the plan, and its answer fits its number.
+use Rattle.std.proofs.Common.{rules}
+use Rattle.rules.specs.Answers.{StepIs}
 use Rattle.rules.specs.Calls.{complete_of}
+use Rattle.rules.specs.Steps.{step}
+use Rattle.rules.proofs.Answers.{step_is}
 use Rattle.rules.proofs.Calls.{complete_kept}
-use Rattle.board.specs.Widths.{wholes}
 use Rattle.board.proofs.Narrow.{complete_narrow}
-use Rattle.board.proofs.CallLaws.{few_words, no_state_lem, decoded-fit, Carried, carried, carried_out, leavable}
+use Rattle.board.proofs.CallLaws.{keeps, calls_to}
 use Rattle.board.proofs.otravelun_complete.Goals as goal
 
-pub returns-then-state-lt-STATE_WORDS : goal.returns-then-state-lt-STATE_WORDS
-returns-then-state-lt-STATE_WORDS c = few_words _ _ _ c.if-state-lt-STATE_WORDS.true c.code.ensures
-
-pub returns-then-not-d : goal.returns-then-not-d
-returns-then-not-d c =
-    no_state_lem _ _ _ (sym (decoded-fit _ _ c.decode-d.ensures) ∙ not-true _ c.if-not-d.true) c.code-then-not-d.ensures
-
-pub leave-requires : goal.leave-requires
-leave-requires c =
-    let done : Carried (λ s. complete_of s c.args.word) c.args.state.now c.complete.result =
-    carried _ _ _ _ c.if-state-lt-STATE_WORDS.false c.decode-d.ensures (not-false _ c.if-not-d.false) c.complete.ensures in
-    let a : get_or c.args.state.now 0 0 < wholes = search rules in
-    let b : get_or c.args.state.now 1 0 < wholes = search rules in
-    leavable _ _ _ done (complete_kept _ _) (complete_narrow _ _) a b
+pub called-requires-clause-keeps : goal.called-requires-clause-keeps
+called-requires-clause-keeps c = λ s a z said.
+    let w : StepIs (complete_of s c.args.word) (step a z) = search rules in
+    keeps (λ z. complete_of z c.args.word) s a z (complete_kept s c.args.word) (complete_narrow s c.args.word) (step_is (complete_of s c.args.word) (step a z) w)
 
 pub returns : goal.returns
 returns c =
-    let done : Carried (λ s. complete_of s c.args.word) c.args.state.now c.complete.result =
-    carried _ _ _ _ c.if-state-lt-STATE_WORDS.false c.decode-d.ensures (not-false _ c.if-not-d.false) c.complete.ensures in
-    carried_out _ _ _ _ _ done c.leave.ensures.0 c.leave.ensures.1
+    calls_to (λ z. complete_of z c.args.word) _ _ _ _ (λ s a z said. let w : StepIs (complete_of s c.args.word) (step a z) = search rules in step_is (complete_of s c.args.word) (step a z) w) c.called.ensures

@@ -2,5 +2,5 @@
 use Rattle.board.proofs.Narrow.{plan_narrow}
 use Rattle.board.proofs.otravelun_plan.Goals as goal
 
-pub of_verdict-requires : goal.of_verdict-requires
-of_verdict-requires c = plan_narrow c.args.tasks.now c.args.connections.now c.plan-p.result c.plan-p.ensures
+pub code-requires-2 : goal.code-requires-2
+code-requires-2 c = plan_narrow c.args.tasks.now c.args.connections.now c.plan-p.result c.plan-p.ensures

@@ -1,81 +1,52 @@
--- 5 to 8 come in turn: each by the first place where it stands, 6 by the square of chains, 8 by the common multiple; and where none
--- stands, what is worked out is the plan.
-use Rattle.std.proofs.Common.{arith}
-use Rattle.rules.proofs.Refusals.{tables_under}
-use Rattle.planner.proofs.Tested.{uneven-told, raised-told}
-use Rattle.planner.proofs.Internals.{workable}
-use Rattle.planner.proofs.Stages.{plan_refused, plan_accepted, place_refused, place_passed, joined_readable, rows_named, circle_refused, circle_passed, multiple_refused, multiple_passed}
+-- 5 to 8 come in turn: 5 and 7 by the first place where each stands, 6 by the square of chains, 8 by the common multiple; and where
+-- none stands, what is worked out is the plan.
+use Rattle.std.proofs.Common.{◌≡◌, Some, None, arith}
+use Rattle.std.proofs.lemmas.Option.{MatchOption-at_some, MatchOption-at_none}
+use Rattle.std.proofs.lemmas.Result.{err_from_is_err_and}
+use Rattle.rules.specs.declared.Refusal.TheVariants as refusal
+use Rattle.planner.proofs.Stages.{all_joined, all_sized, all_workable, square_able, uneven_refused, circle_refused, raised_refused, over_refused, plan_accepted}
 use Rattle.planner.proofs.plan_chains.Goals as goal
 
-pub first_place-uneven-requires : goal.first_place-uneven-requires
-first_place-uneven-requires c = λ p h.
-    joined_readable c.args.tasks.now c.args.connections.now (tables_under _ _ c.requires) 5 p (λ e. omega (arith, e)) h
+pub first_uneven-requires : goal.first_uneven-requires
+first_uneven-requires c = all_joined c.args.tables c.requires
 
-pub returns-then-uneven-rows : goal.returns-then-uneven-rows
-returns-then-uneven-rows c =
-    let tw = c.args.tasks.now in
-    let cw = c.args.connections.now in
-    plan_refused tw cw 5 _ _
-    (place_refused tw cw 5 _ _ (uneven-told tw cw) c.requires c.first_place-uneven.ensures c.if-uneven-rows.true) c.refused.ensures
+pub returns-in-Some : goal.returns-in-Some
+returns-in-Some c = uneven_refused c.args.tables c.requires _ c.in-Some.ensures
 
 pub square-chains-requires : goal.square-chains-requires
-square-chains-requires c =
-    let ts = tables_under c.args.tasks.now c.args.connections.now c.requires in
-    (rows_named _ _ ts, ts.lengths.tasks_most)
+square-chains-requires c = square_able c.args.tables c.requires _ c.count-count.ensures
 
-pub returns-then-circle-count : goal.returns-then-circle-count
-returns-then-circle-count c =
-    let tw = c.args.tasks.now in
-    let cw = c.args.connections.now in
-    let ts = tables_under tw cw c.requires in
-    let sq = c.square-chains in
-    let six = place_passed tw cw 5 _ _ (uneven-told tw cw) c.requires c.first_place-uneven.ensures c.if-uneven-rows.false in
-    plan_refused tw cw 6 _ _
-    (circle_refused tw cw ts sq.result sq.ensures six _ c.first_circle-circle.ensures c.if-circle-count.true) c.refused-then-circle-count.ensures
+pub returns-in-Some-first_circle : goal.returns-in-Some-first_circle
+returns-in-Some-first_circle c =
+    circle_refused c.args.tables c.requires _ c.count-count.ensures _ c.square-chains.ensures c.in_default.ensures _
+    c.in-Some-first_circle.ensures
 
-pub first_place-raised-requires : goal.first_place-raised-requires
-first_place-raised-requires c = λ p h.
-    joined_readable c.args.tasks.now c.args.connections.now (tables_under _ _ c.requires) 7 p (λ e. omega (arith, e)) h
+pub first_raised-requires : goal.first_raised-requires
+first_raised-requires c = all_joined c.args.tables c.requires
 
-pub returns-then-raised-rows : goal.returns-then-raised-rows
-returns-then-raised-rows c =
-    let tw = c.args.tasks.now in
-    let cw = c.args.connections.now in
-    let ts = tables_under tw cw c.requires in
-    let sq = c.square-chains in
-    let six = place_passed tw cw 5 _ _ (uneven-told tw cw) c.requires c.first_place-uneven.ensures c.if-uneven-rows.false in
-    let seven = circle_passed tw cw ts sq.result sq.ensures six _ c.first_circle-circle.ensures c.if-circle-count.false in
-    plan_refused tw cw 7 _ _
-    (place_refused tw cw 7 _ _ (raised-told tw cw) seven c.first_place-raised.ensures c.if-raised-rows.true) c.refused-then-raised-rows.ensures
+pub returns-in-Some-first_raised : goal.returns-in-Some-first_raised
+returns-in-Some-first_raised c =
+    raised_refused c.args.tables c.requires _ c.count-count.ensures _ c.square-chains.ensures c.in_default.ensures
+    c.in_default-first_circle.ensures _ c.in-Some-first_raised.ensures
 
-pub multiple_of-multiple-requires : goal.multiple_of-multiple-requires
-multiple_of-multiple-requires c = (tables_under c.args.tasks.now c.args.connections.now c.requires).sizes
+pub multiple_of-requires : goal.multiple_of-requires
+multiple_of-requires c = all_sized c.args.tables c.requires
 
-pub returns-then-multiple-eq0 : goal.returns-then-multiple-eq0
-returns-then-multiple-eq0 c =
-    let tw = c.args.tasks.now in
-    let cw = c.args.connections.now in
-    let ts = tables_under tw cw c.requires in
-    let sq = c.square-chains in
-    let six = place_passed tw cw 5 _ _ (uneven-told tw cw) c.requires c.first_place-uneven.ensures c.if-uneven-rows.false in
-    let seven = circle_passed tw cw ts sq.result sq.ensures six _ c.first_circle-circle.ensures c.if-circle-count.false in
-    let eight = place_passed tw cw 7 _ _ (raised-told tw cw) seven c.first_place-raised.ensures c.if-raised-rows.false in
-    plan_refused tw cw 8 _ _ (multiple_refused tw cw eight _ c.multiple_of-multiple.ensures c.if-multiple-eq0.true) c.refused-then-multiple-eq0.ensures
+pub returns-in_err-multiple : goal.returns-in_err-multiple
+returns-in_err-multiple c =
+    let none : c.multiple_of.result ≡ None = grind arith in
+    let given : c.in_err-multiple.field-0.0 ≡ refusal.Multiple = grind arith in
+    let p = err_from_is_err_and c.from_residual.result c.from_residual.ensures.1 in
+    rw (p.1, p.2, given)
+    (over_refused c.args.tables c.requires _ c.count-count.ensures _ c.square-chains.ensures c.in_default.ensures
+    c.in_default-first_circle.ensures c.in_default-first_raised.ensures (MatchOption-at_none _ _ none c.multiple_of.ensures))
 
 pub worked_out-requires : goal.worked_out-requires
-worked_out-requires c =
-    let tw = c.args.tasks.now in
-    let cw = c.args.connections.now in
-    workable tw cw (tables_under tw cw c.requires) _ c.square-chains.ensures
+worked_out-requires c = all_workable c.args.tables c.requires _ c.count-count.ensures _ c.square-chains.ensures
 
 pub returns : goal.returns
 returns c =
-    let tw = c.args.tasks.now in
-    let cw = c.args.connections.now in
-    let ts = tables_under tw cw c.requires in
-    let sq = c.square-chains in
-    let six = place_passed tw cw 5 _ _ (uneven-told tw cw) c.requires c.first_place-uneven.ensures c.if-uneven-rows.false in
-    let seven = circle_passed tw cw ts sq.result sq.ensures six _ c.first_circle-circle.ensures c.if-circle-count.false in
-    let eight = place_passed tw cw 7 _ _ (raised-told tw cw) seven c.first_place-raised.ensures c.if-raised-rows.false in
-    let sound = multiple_passed tw cw eight _ c.multiple_of-multiple.ensures (omega arith) in
-    plan_accepted tw cw sound _ sq.ensures _ (omega arith) c.multiple_of-multiple.ensures _ c.worked_out.ensures
+    let found : c.multiple_of.result ≡ Some c.in_ok-multiple.multiple = grind arith in
+    plan_accepted c.args.tables c.requires _ c.count-count.ensures _ c.square-chains.ensures c.in_default.ensures
+    c.in_default-first_circle.ensures c.in_default-first_raised.ensures _ (MatchOption-at_some _ _ _ found c.multiple_of.ensures) _
+    c.worked_out.ensures

@@ -8,7 +8,8 @@ loop-c-init c = laying_none _ _ _ _
 
 pub loop-c-preserved : goal.loop-c-preserved
 loop-c-preserved c =
-    laying_turn _ _ _ _ _ _ _ _ (λ _. refl) c.loop-c.invariant (omega arith) (rw c.mark_word.ensures at c.put_words.ensures)
+    laying_turn _ _ _ _ _ _ _ _ (λ _. refl) c.loop-c.invariant (omega arith)
+    (rw (c.to_word.ensures, c.to_word-in-loop-c.ensures, c.to_word-in-loop-c-2.ensures) at c.put.ensures)
 
 pub returns : goal.returns
 returns c = laying_end _ _ _ _ 3 _ _ (λ _. refl) c.loop-c.invariant (omega arith)

@@ -1,20 +1,20 @@
-use Rattle.std.proofs.Common.{sym, ◌∙◌, arith}
+use Rattle.std.proofs.Common.{false, arith}
 use Rattle.rules.specs.Chains.{Link}
+use Rattle.rules.proofs.Tests.{true_false}
 use Rattle.planner.proofs.Rounds.{rounds_none, rounds_more, rounds_over, link_ends}
 use Rattle.planner.proofs.chains.chains_from.Goals as goal
 
 pub loop-k-init : goal.loop-k-init
-loop-k-init c = record { within = omega arith; so_far = rounds_none _ _ c.requires.1 }
-
-pub returns-then-none : goal.returns-then-none
-returns-then-none c = λ j h.
-    let a = c.args in
-    let l = c.loop-k in
-    rounds_over (Link a.connections.now) a.i l.k l.marks c.step-next.result l.best l.invariant.so_far c.step-next.ensures
-    (link_ends a.connections.now c.requires.0) (sym c.none.ensures ∙ c.if-none.true) a.n j (omega arith) h
+loop-k-init c = rounds_none _ _ c.requires.1
 
 pub loop-k-preserved : goal.loop-k-preserved
-loop-k-preserved c = record {
-  within = omega arith;
-  so_far = rounds_more _ _ _ _ _ _ _ c.loop-k.invariant.so_far c.step-next.ensures c.noted-more.ensures;
-}
+loop-k-preserved c = rounds_more _ _ _ _ _ _ _ c.loop-k.invariant c.step-marks.ensures c.note.ensures
+
+pub returns-then-not-contains : goal.returns-then-not-contains
+returns-then-not-contains c = λ j h.
+    let a = c.args in
+    let l = c.loop-k in
+    rounds_over (Link a.connections.now) a.i l.k l.marks c.step-marks.result l.best l.invariant c.step-marks.ensures
+    (link_ends a.connections.now c.requires.0)
+    (λ m g on. true_false (rw on at (c.if-not-contains.ensures.cases m false (omega arith) (omega arith))))
+    a.n j (omega arith) h

@@ -1,5 +1,5 @@
--- The rows below i are worked out. The measure is the rows that are left.
-use Rattle.std.proofs.Common.{◌≡◌, [], ℕ, ◌-◌, ◌<◌, length, get_or}
+-- The rows below i are worked out.
+use Rattle.std.proofs.Common.{◌≡◌, [], ℕ, ◌<◌, length, get_or}
 use Rattle.rules.specs.Chains.{Link}
 use Rattle.planner.specs.Rounds.{ChainsFrom}
 use Rattle.planner.proofs.chains.square.Given as goal
@@ -9,6 +9,3 @@ invariant-loop-i l = record {
   long : length l.chains ≡ 32;
   so_far : (q : ℕ) → q < l.i → ChainsFrom (Link l.connections) l.n q (get_or l.chains q []);
 }
-
-abbrev pub decreases-loop-i : goal.decreases-loop-i
-decreases-loop-i l = l.n - l.i

@@ -1,4 +1,3 @@
-use Rattle.std.proofs.Common.{arith}
 use Rattle.rules.specs.Sizes.{most_tasks}
 use Rattle.rules.specs.Tables.{count}
 use Rattle.planner.specs.Internal.{deadline_over, criticality_over}
@@ -11,11 +10,10 @@ loop-i-preserved c =
     let tw = c.args.tasks.now in
     let sq = c.args.chains.now in
     record {
-      within = omega arith;
       deadlines_so_far =
           column-turn (λ q. deadline_over tw sq q (count tw)) l.i 0 most_tasks _ _ l.invariant.deadlines_so_far
-          c.numbers_of-x.ensures.deadline_is;
+          c.numbers_of-numbers.ensures.deadline_is;
       criticalities_so_far =
           column-turn (λ q. criticality_over tw sq q (count tw)) l.i 0 most_tasks _ _ l.invariant.criticalities_so_far
-          c.numbers_of-x.ensures.criticality_is;
+          c.numbers_of-numbers.ensures.criticality_is;
     }

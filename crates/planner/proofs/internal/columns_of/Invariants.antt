@@ -1,5 +1,5 @@
--- The numbers of the tasks below i stand in their columns, and zeros past them. The measure is the tasks that are left.
-use Rattle.std.proofs.Common.{◌≡◌, ◌-◌, ◌≤◌}
+-- The numbers of the tasks below i stand in their columns, and zeros past them.
+use Rattle.std.proofs.Common.{◌≡◌}
 use Rattle.rules.specs.Sizes.{most_tasks}
 use Rattle.rules.specs.Tables.{count}
 use Rattle.rules.specs.Counting.{column}
@@ -8,10 +8,6 @@ use Rattle.planner.proofs.internal.columns_of.Given as goal
 
 abbrev pub invariant-loop-i : goal.invariant-loop-i
 invariant-loop-i l = record {
-  within : l.i ≤ count l.tasks;
   deadlines_so_far : l.deadlines ≡ column (λ q. deadline_over l.tasks l.chains q (count l.tasks)) l.i 0 most_tasks;
   criticalities_so_far : l.criticalities ≡ column (λ q. criticality_over l.tasks l.chains q (count l.tasks)) l.i 0 most_tasks;
 }
-
-abbrev pub decreases-loop-i : goal.decreases-loop-i
-decreases-loop-i l = count l.tasks - l.i

@@ -4,8 +4,8 @@ use Rattle.planner.specs.Internal.{between}
 use Rattle.planner.proofs.Internals.{least_low}
 use Rattle.planner.proofs.internal.numbers_of.Goals as goal
 
-pub overflow_cast-least : goal.overflow_cast-least
-overflow_cast-least c =
+pub overflow_cast-result : goal.overflow_cast-result
+overflow_cast-result c =
     let i = c.args.i in
     let tw = c.args.tasks.now in
     omega (

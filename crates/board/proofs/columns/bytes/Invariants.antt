@@ -1,8 +1,0 @@
--- The first k words are taken and tested.
-use Rattle.std.proofs.Common.{length}
-use Rattle.board.specs.Columns.{cut}
-use Rattle.board.proofs.Turns.{Taking, Testing}
-use Rattle.board.proofs.columns.bytes.Given as goal
-
-abbrev pub invariant-loop-k : goal.invariant-loop-k
-invariant-loop-k l = Taking (cut 256) l.words l.start l.apart (length l.fn.out) l.k l.fn.out l.out × Testing l.words l.start l.apart 256 l.k l.fit

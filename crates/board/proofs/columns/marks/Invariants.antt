@@ -1,8 +1,0 @@
--- The first k words are taken and tested.
-use Rattle.std.proofs.Common.{length}
-use Rattle.board.specs.Marks.{mark_from}
-use Rattle.board.proofs.Turns.{Taking, Testing}
-use Rattle.board.proofs.columns.marks.Given as goal
-
-abbrev pub invariant-loop-k : goal.invariant-loop-k
-invariant-loop-k l = Taking mark_from l.words l.start l.apart (length l.fn.out) l.k l.fn.out l.out × Testing l.words l.start l.apart 2 l.k l.fit

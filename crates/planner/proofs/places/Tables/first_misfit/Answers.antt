@@ -1,0 +1,9 @@
+use Rattle.std.proofs.Common.{rules}
+use borrow.Author.Tests.{tests}
+use Rattle.planner.specs.Places.{misfit_at}
+use Rattle.planner.proofs.Tested.{first_found}
+use Rattle.planner.proofs.places.Tables.first_misfit.Goals as goal
+
+pub returns : goal.returns
+returns c =
+    first_found (misfit_at c.args.self) _ _ _ _ c.find.result c.count.ensures c.find.ensures.ran (λ x b q k. search (rules, tests))

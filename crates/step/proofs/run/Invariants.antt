@@ -1,5 +1,0 @@
--- It ends, since each turn leaves one less.
-use Rattle.step.proofs.run.Given as goal
-
-abbrev pub decreases-loop-turns : goal.decreases-loop-turns
-decreases-loop-turns l = l.turns
