@@ -11,13 +11,13 @@ impl Machine<'_> {
     pub(crate) fn tick(&mut self) -> Answer
         ensures { (result, self.new.state) ≡ stepped ticking self.old.state }
     {
-        let (due, released) = self.marks();
-        if let Some(task) = self.missing_task(&due) {
+        let marked = self.marks();
+        if let Some(task) = self.missing_task(&marked.due) {
             self.state.halted = true;
             return Answer::Missed(task);
         }
-        self.deliver(&due);
-        self.dispatch(&released);
+        self.deliver(&marked.due);
+        self.dispatch(&marked.released);
         let answer = self.choose();
         self.advance();
         answer

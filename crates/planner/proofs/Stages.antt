@@ -2,28 +2,25 @@
 -- is the refusal; and where no test holds, what is worked out is 01's plan.
 use mathlib.Core.Path.{◌≡◌, refl, ap, sym, ◌∙◌, subst}
 use mathlib.Core.Bool.{Bool, true, false}
-use mathlib.Core.Logic.{◌⊎◌, inl, inr, ⊎_elim}
 use mathlib.Core.List.{List}
-use Prim.Native.Nat.{ℕ, suc, ◌%◌, ◌≤◌, ◌<◌}
+use Prim.Native.Nat.{ℕ, suc, ◌≤◌, ◌<◌}
 use native.Mathlib.Omega.{arith}
 use lib.ListN.{get_or, length}
 use borrow.Author.Tests.{ltb-true, lt-ltb}
-use Rattle.std.specs.Prelude.{Result}
-use Rattle.rules.specs.Sizes.{most_tasks, task_width, row_width, most_task_words, most_row_words, most_multiple}
+use Rattle.rules.specs.Sizes.{most_tasks, most_multiple}
 use Rattle.rules.specs.Tables.{count, rows, sender, receiver}
 use Rattle.rules.specs.Chains.{Link, Acyclic}
 use Rattle.rules.specs.Counting.{column}
 use Rattle.rules.specs.Order.{Common, IsDeadline, IsCriticality}
 use Rattle.rules.specs.Refusals.{Refusal, Sound}
-use Rattle.rules.specs.Plan.{ZeroFrom, Accepts, Judges, PlanIs}
+use Rattle.rules.specs.Plan.{ZeroFrom, Accepts, PlanIs}
 use Rattle.rules.specs.declared.Plan.{Plan}
 use Rattle.rules.specs.declared.Refusal as code
 use Rattle.rules.specs.declared.Refusal.TheVariants as refusal
 use Rattle.rules.proofs.Tests.{true_false}
-use Rattle.rules.proofs.Deciding.{Decision, lt, equal, fails, either, restated}
 use Rattle.rules.proofs.Counting.{replicate_at, column-at, column-past, column-length}
 use Rattle.rules.proofs.Chains.{Upto, upto_reached, upto_reaches}
-use Rattle.rules.proofs.Refusals.{NoneUnder, Tables, none_more, none_under_one, none_at_all, refused-whole, tables_of, tables_under, link_within, no_circle}
+use Rattle.rules.proofs.Refusals.{NoneUnder, Tables, none_more, none_at_all, refused-whole, tables_of, tables_under, link_within, no_circle}
 use Rattle.planner.specs.declared.places.Tables as lent
 use Rattle.planner.specs.Places.{AllJoined, misfit_at, stray_at, uneven_at, raised_at}
 use Rattle.planner.specs.Rounds.{Named, Square, circles}
@@ -37,27 +34,6 @@ use Rattle.planner.proofs.Internals.{workable, deadline-right, criticality-right
 module _ (tw cw : List ℕ) where
   -- -------------------------------------------------------------------------------------------------------------------------
   -- A refusal
-
-  -- by the lengths: 1 and 2
-  abbrev task_words : Decision ((length tw % task_width ≡ 0 → ⊥) ⊎ (length tw ≡ 0) ⊎ (most_task_words < length tw))
-  task_words =
-      restated (⊎_elim (⊎_elim inl (λ x. inr (inl x))) (λ x. inr (inr x))) (⊎_elim (λ x. inl (inl x)) (⊎_elim (λ x. inl (inr x)) inr))
-      (either (either (fails (equal (length tw % task_width) 0)) (equal (length tw) 0)) (lt most_task_words (length tw)))
-
-  abbrev row_words : Decision ((length cw % row_width ≡ 0 → ⊥) ⊎ (most_row_words < length cw))
-  row_words = either (fails (equal (length cw % row_width) 0)) (lt most_row_words (length cw))
-
-  pub task_words_refused : task_words.test ≡ true → Refusal tw cw 1 0
-  task_words_refused t = refused-whole tw cw 1 (none_under_one tw cw) (refl, task_words.if_true t)
-
-  pub task_words_passed : task_words.test ≡ false → NoneUnder tw cw 2
-  task_words_passed f = none_more tw cw 1 (none_under_one tw cw) (λ q b. task_words.if_false f b.1)
-
-  pub row_words_refused : NoneUnder tw cw 2 → row_words.test ≡ true → Refusal tw cw 2 0
-  row_words_refused none t = refused-whole tw cw 2 none (refl, row_words.if_true t)
-
-  pub row_words_passed : NoneUnder tw cw 2 → row_words.test ≡ false → NoneUnder tw cw 3
-  row_words_passed none f = none_more tw cw 2 none (λ q b. row_words.if_false f b.1)
 
   -- by a test of each place: 3, 4, 5 and 7
   module _ (number n : ℕ) (test : ℕ → Bool) (told : Told tw cw number n test) (none : NoneUnder tw cw number) where
@@ -226,10 +202,7 @@ module _ (t : lent.Tables) where
             pub plan_accepted : (c : ℕ) → MultipleAt tw c → (r : Plan) → WorkedOut tw sq c r → Planned t r
             plan_accepted c m r w = record { accepted = w.accepted; accepts = accepts tw cw (multiple_passed tw cw eight c m) sq square c m r w }
 
-  -- what is answered in the end: a plan, or zeros throughout with the refusal
-  pub plan_is : (r : Plan) → Planned t r → PlanIs tw cw r
-  plan_is r w = subst (λ (v : Result (Unit {0}) code.Refusal). Judges tw cw v r) (sym w.accepted) w.accepts
-
+  -- zeros throughout, with the refusal
   pub plan_refused : (f : code.Refusal) (r : Plan) → Refused t f → r ≡ refused_plan f → PlanIs tw cw r
   plan_refused f r because e =
       subst (PlanIs tw cw) (sym e)

@@ -49,5 +49,5 @@ pub record Planned (t : Tables) (r : Plan) : Type 0 where
   pub accepts : Accepts t.tasks.now t.connections.now r
 
 -- such a plan, or the refusal that stands
-abbrev pub Worked : Tables → Result Plan Refusal → Type 0
-Worked t r = MatchResult r (Planned t) (Refused t)
+abbrev pub Outcome : Tables → Result Plan Refusal → Type 0
+Outcome t r = MatchResult r (Planned t) (Refused t)

@@ -16,7 +16,7 @@ fn step(connections: &[u16], marks: &[bool; 32]) -> [bool; 32]
     let mut next = [false; 32];
     for c in 0..connections.len() / 3 {
         let row = ConnectionRow::at(connections, c);
-        if (row.kind == 1) & marks[row.sender as usize] {
+        if row.kind == 1 && marks[row.sender as usize] {
             next[row.receiver as usize] = true;
         }
     }
@@ -52,7 +52,7 @@ fn chains_from(connections: &[u16], n: u8, i: usize) -> [u8; 32]
     best
 }
 
-// The square of the chains between n tasks.
+// The square of the chains between n tasks, by value: memory is fixed.
 pub(crate) fn square(connections: &[u16], n: u8) -> [[u8; 32]; 32]
     requires { Named connections.now × (n ≤ most_tasks) }
     ensures { Square (Link connections.now) n result }

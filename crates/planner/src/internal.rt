@@ -11,6 +11,7 @@ struct Numbers {
     criticality: u8,
 }
 
+// The two columns of a plan, side by side as a plan has them.
 #[derive(Clone, Copy)]
 pub(crate) struct Columns {
     pub(crate) deadlines: [u32; 32],
@@ -23,7 +24,7 @@ fn numbers_of(tasks: &[u16], chains: &[[u8; 32]; 32], i: usize) -> Numbers
     ensures { NumbersAre tasks.now chains.now i result }
 {
     let own = TaskRow::at(tasks, i);
-    let mut deadline = own.deadline as u32 * 64;
+    let mut deadline = (own.deadline as u32) * 64;
     let mut criticality = own.criticality;
     for j in 0..tasks.len() / 5 {
         let chain = chains[i][j] as u32;

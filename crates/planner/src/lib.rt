@@ -4,7 +4,7 @@
 ghost use Rattle.std.specs.Prelude.{◌≡◌};
 ghost use Rattle.rules.specs.Plan.{PlanIs};
 ghost use Rattle.planner.specs.Internal.{Workable};
-ghost use Rattle.planner.specs.Stages.{refused_plan, Clear, Checked, WorkedOut, Worked};
+ghost use Rattle.planner.specs.Stages.{refused_plan, Clear, Checked, WorkedOut, Outcome};
 
 use places::Tables;
 use rules::{Plan, Refusal};
@@ -48,11 +48,11 @@ fn check_lengths(tables: Tables) -> Result<(), Refusal>
     ensures { Checked tables.entry 3 result }
 {
     let words = tables.tasks.len();
-    if (words % 5 != 0) | (words == 0) | (160 < words) {
+    if words % 5 != 0 || words == 0 || 160 < words {
         return Err(Refusal::TaskWords);
     }
     let words = tables.connections.len();
-    if (words % 3 != 0) | (192 < words) {
+    if words % 3 != 0 || 192 < words {
         return Err(Refusal::ConnectionWords);
     }
     Ok(())
@@ -75,7 +75,7 @@ fn check_values(tables: Tables) -> Result<(), Refusal>
 // Refusals 5 to 8, and the plan where none stands.
 fn plan_chains(tables: Tables) -> Result<Plan, Refusal>
     requires { Clear tables 5 }
-    ensures { Worked tables.entry result }
+    ensures { Outcome tables.entry result }
 {
     let count = tables.count();
     if let Some(row) = tables.first_uneven() {
@@ -94,7 +94,7 @@ fn plan_chains(tables: Tables) -> Result<Plan, Refusal>
 
 // The plan, or the first refusal.
 fn planned(tables: Tables) -> Result<Plan, Refusal>
-    ensures { Worked tables.entry result }
+    ensures { Outcome tables.entry result }
 {
     check_lengths(tables)?;
     check_values(tables)?;

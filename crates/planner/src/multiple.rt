@@ -15,7 +15,7 @@ fn multiple_of_two(a: u32, b: u32) -> Option<u32>
 {
     let larger = a.max(b);
     let smaller = a.min(b);
-    for multiple in (larger..MOST + 1).step_by(larger as usize) {
+    for multiple in (larger..=MOST).step_by(larger as usize) {
         if multiple % smaller == 0 {
             return Some(multiple);
         }

@@ -9,21 +9,18 @@ use rules::{ConnectionRow, TaskRow};
 fn fit(task: TaskRow) -> bool
     ensures { result ≡ fit task }
 {
-    (1 <= task.period)
-        & (task.period <= 10000)
-        & (1 <= task.deadline)
-        & (task.deadline <= task.period)
-        & (1 <= task.compute)
-        & (task.compute <= task.deadline)
-        & (task.criticality <= 255)
-        & (task.flag <= 1)
+    (1..=10000).contains(&task.period)
+        && (1..=task.period).contains(&task.deadline)
+        && (1..=task.deadline).contains(&task.compute)
+        && task.criticality <= 255
+        && task.flag <= 1
 }
 
 // Whether a row joins two of so many tasks, by a known kind.
 fn joins(row: ConnectionRow, count: usize) -> bool
     ensures { result ≡ joins row count }
 {
-    ((row.sender as usize) < count) & ((row.receiver as usize) < count) & (row.kind <= 1)
+    (row.sender as usize) < count && (row.receiver as usize) < count && row.kind <= 1
 }
 
 // Whether neither period divides the other.
@@ -31,14 +28,14 @@ fn uneven(from: TaskRow, to: TaskRow) -> bool
     requires { (0 < from.period) × (0 < to.period) }
     ensures { result ≡ uneven from to }
 {
-    !(to.period % from.period == 0) & !(from.period % to.period == 0)
+    to.period % from.period != 0 && from.period % to.period != 0
 }
 
 // Whether the sender is less critical than the receiver, with its flag 0.
 fn raised(from: TaskRow, to: TaskRow) -> bool
     ensures { result ≡ raised from to }
 {
-    (to.criticality < from.criticality) & (from.flag == 0)
+    (to.criticality < from.criticality) && from.flag == 0
 }
 
 // Both tables, as they are lent.
@@ -49,12 +46,14 @@ pub(crate) struct Tables<'a> {
 }
 
 impl Tables<'_> {
+    // How many tasks there are.
     pub(crate) fn count(self) -> usize
         ensures { result ≡ count self.entry.tasks.now }
     {
         self.tasks.len() / 5
     }
 
+    // How many rows there are.
     fn rows(self) -> usize
         ensures { result ≡ rows self.entry.connections.now }
     {
@@ -79,16 +78,23 @@ impl Tables<'_> {
         requires { Joined self c }
         ensures { result ≡ uneven_at self.entry c }
     {
+        if ConnectionRow::at(self.connections, c).kind != 1 {
+            return false;
+        }
         let (from, to) = self.ends(c);
-        (ConnectionRow::at(self.connections, c).kind == 1) & uneven(from, to)
+        uneven(from, to)
     }
 
+    // Whether row c is undelayed, from a less critical task with its flag 0 to a more critical one.
     fn is_raised(self, c: usize) -> bool
         requires { Joined self c }
         ensures { result ≡ raised_at self.entry c }
     {
+        if ConnectionRow::at(self.connections, c).kind != 1 {
+            return false;
+        }
         let (from, to) = self.ends(c);
-        (ConnectionRow::at(self.connections, c).kind == 1) & raised(from, to)
+        raised(from, to)
     }
 
     // Where 3 stands: the first task with a value outside its size.
@@ -114,7 +120,7 @@ impl Tables<'_> {
         (0..self.rows()).find(|c| self.is_uneven(*c))
     }
 
-    // Where 7 stands: the first undelayed row from a less critical task, with its flag 0, to a more critical one.
+    // Where 7 stands: the first undelayed row from a less critical task with its flag 0 to a more critical one.
     pub(crate) fn first_raised(self) -> Option<usize>
         requires { AllJoined self }
         ensures { IsFirst (raised_at self.entry) (rows self.entry.connections.now) result }

@@ -8,7 +8,7 @@ use Rattle.executive.proofs.Remainders.{same-remainder}
 use Rattle.executive.proofs.machine.Machine.marks.Goals as goal
 
 pub loop-i-init : goal.loop-i-init
-loop-i-init c = rw (c.none-due.ensures, c.none-released.ensures) (telling-none (falls c.args.self.now.state.now), telling-none (released c.args.self.now.state.now))
+loop-i-init c = rw (c.none.ensures, c.none-2.ensures) (telling-none (falls c.args.self.now.state.now), telling-none (released c.args.self.now.state.now))
 
 pub loop-i-preserved : goal.loop-i-preserved
 loop-i-preserved c =
@@ -17,4 +17,4 @@ loop-i-preserved c =
     let few = c.args.self.now.fits.few in
     let same = ap (◌&&◌ s.ticked) (same-remainder s.cycle (deadline s l.i) (period s l.i) (c.args.self.now.fits.low l.i (omega arith)) (c.args.self.now.fits.within l.i (omega arith))) in
     rw (c.put.ensures, c.put-in-loop-i.ensures)
-    (telling-turn (falls s) l.i l.due _ (omega arith) l.invariant.0 same, telling-turn (released s) l.i l.released _ (omega arith) l.invariant.1 refl)
+    (telling-turn (falls s) l.i l.marked.due _ (omega arith) l.invariant.0 same, telling-turn (released s) l.i l.marked.released _ (omega arith) l.invariant.1 refl)

@@ -1,5 +1,5 @@
 -- Steps 1 to 5 in their order, each the rules' own.
-use Rattle.std.proofs.Common.{◌≡◌, ◌<◌, true, false, ap, sym, ℕ, ltb-true}
+use Rattle.std.proofs.Common.{◌≡◌, true, false, ap, sym, ℕ, ltb-true}
 use mathlib.Core.Path.{◌∙◌}
 use Rattle.std.proofs.lemmas.Option.{cond_some}
 use lib.Dec.{ltb}
@@ -10,7 +10,7 @@ use Rattle.rules.specs.declared.Answer.{Answer}
 use Rattle.rules.specs.declared.Answer.TheVariants as answer
 use Rattle.rules.specs.declared.Step.{Step}
 use Rattle.rules.specs.declared.State.{State}
-use Rattle.rules.proofs.Steps.{chosen-plan, chosen-cycle, ticking-missed}
+use Rattle.rules.proofs.Steps.{ticking-missed}
 use Rattle.rules.proofs.Tests.{cond_false}
 use Rattle.executive.specs.Machine.{after, stepped}
 use Rattle.executive.proofs.Found.{found-none}
@@ -44,7 +44,7 @@ returns-in-Some c =
     (ap (λ (i : ℕ). step (answer.Missed i) (set_halted s true)) (sym q.1) ∙ sym (ticking-missed s (ltb-true _ _ q.0)))
 
 pub dispatch-requires : goal.dispatch-requires
-dispatch-requires c = rw c.deliver.ensures (freed-kept c.args.self.now.state.now _ c.marks.ensures.released)
+dispatch-requires c = rw c.deliver.ensures (freed-kept c.args.self.now.state.now _ c.marks-marked.ensures.released)
 
 pub returns : goal.returns
 returns c =
