@@ -64,14 +64,14 @@ copy_off a b x y e = cond_false (a && b) x y (and_not_right a b e)
 
 -- where no mark is set nothing changes
 module _ (s : State) (m : Marks) (fit : Fits s) where
-  pub none-delivered : Tells s (falls s) m → m.any ≡ false → delivered s ≡ s
+  pub none-delivered : Tells s falls m → m.any ≡ false → delivered s ≡ s
   unfolding delivered
   none-delivered told e =
       let none = λ (i : ℕ) (h : i < s.count). any_below-none (falls s) s.count i (sym told.some ∙ e) h in
       ap (set_buffers s)
       (map_below-none (delivers s) s.rows s.buffers (λ c h w. copy_off (not (undelayed s c)) _ _ w (none (sender s c) (fit.sends c h))))
 
-  pub none-dispatched : Tells s (released s) m → m.any ≡ false → dispatched s ≡ s
+  pub none-dispatched : Tells s released m → m.any ≡ false → dispatched s ≡ s
   unfolding dispatched
   none-dispatched told e =
       let none = λ (i : ℕ) (h : i < s.count). any_below-none (released s) s.count i (sym told.some ∙ e) h in

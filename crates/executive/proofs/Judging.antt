@@ -1,6 +1,7 @@
 -- The tests 16 and 15 before a call is carried out: what follows where one stands, and where neither does.
 use mathlib.Core.Path.{◌≡◌, refl, ap, sym, ◌∙◌}
 use mathlib.Core.Bool.{Bool, true, false, cond}
+use Prim.Native.Nat.{◌<◌}
 use native.Mathlib.Omega.{arith}
 use Rattle.std.specs.Prelude.{Result, Ok, Err}
 use Rattle.rules.specs.Steps.{step}
@@ -63,3 +64,6 @@ module _ (s : State) (u : Unit {0}) (e : accepts s ≡ Ok u) where
         receives = λ c h. (r.joins c h).receiver_task;
         names = r.names_task;
       }
+
+  pub cycle_by : s.cycle < s.multiple
+  cycle_by = (in_range-ranged s in_range_by).sizes.cycle_below

@@ -9,3 +9,4 @@ pub mod Found
 pub mod Choices
 pub mod Judging
 pub mod Filled
+pub mod Lent

@@ -3,4 +3,5 @@ pub mod Marks
 pub mod Fits
 pub mod Copies
 pub mod Found
+pub mod Machine
 pub mod Start

@@ -21,6 +21,6 @@ abbrev pub with_mark : Marks → ℕ → Bool → Marks
 with_mark m i b = record { tasks = set m.tasks i b; any = m.any || b }
 
 -- the mark of each task that the state has is what the test says, and `any` whether there is one
-pub record Tells (s : State) (test : ℕ → Bool) (m : Marks) : Type 0 where
-  pub each : (i : ℕ) → i < s.count → marked m.tasks i ≡ test i
-  pub some : m.any ≡ any_below test s.count
+pub record Tells (s : State) (test : State → ℕ → Bool) (m : Marks) : Type 0 where
+  pub each : (i : ℕ) → i < s.count → marked m.tasks i ≡ test s i
+  pub some : m.any ≡ any_below (test s) s.count

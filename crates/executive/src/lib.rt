@@ -11,16 +11,16 @@ use rules::{Answer, State, Step};
 
 mod start; // the columns of the tables
 mod range; // refusals 16 and 15
+mod machine; // what the steps are methods of
 mod deadlines; // step 1 of a tick, and step 5
 mod exchange; // steps 2 and 3
 mod choice; // step 4
 mod ticking; // all five
 mod completion; // the end of the running task
 
-use completion::completing;
+use machine::Machine;
 use range::accepts;
 use start::{fresh_state, halted_zeros};
-use ticking::ticking;
 
 pub fn fresh(tasks: &[u16], connections: &[u16]) -> Step
     ensures { FreshIs tasks.now connections.now result }
@@ -51,7 +51,8 @@ pub fn tick(state: &mut State) -> Answer
     if let Err(refusal) = accepts(state) {
         return Answer::Refused(refusal);
     }
-    ticking(state)
+    let mut machine = Machine { state };
+    machine.tick()
 }
 
 pub fn complete(state: &mut State, word: u32) -> Answer
@@ -60,5 +61,6 @@ pub fn complete(state: &mut State, word: u32) -> Answer
     if let Err(refusal) = accepts(state) {
         return Answer::Refused(refusal);
     }
-    completing(state, word)
+    let mut machine = Machine { state };
+    machine.complete(word)
 }

@@ -1,8 +1,11 @@
--- Where a refusal stands nothing changes; where none does the state is in range, which is what the steps ask for.
+-- Where a refusal stands nothing changes; where none does the state is in range, as that of a machine is.
 use mathlib.Core.Path.{◌∙◌, sym}
+use Rattle.std.proofs.Common.{rules}
 use Rattle.rules.specs.Steps.{completing}
+use Rattle.rules.specs.declared.State.{State}
 use Rattle.rules.proofs.Answers.{step-refl}
-use Rattle.executive.proofs.Judging.{refused-by, carried_out, fits_by}
+use Rattle.executive.proofs.Judging.{refused-by, carried_out, fits_by, cycle_by}
+use Rattle.executive.proofs.Lent.{same_reference, given_back}
 use Rattle.executive.proofs.complete.Goals as goal
 
 pub returns-in-Err : goal.returns-in-Err
@@ -10,14 +13,15 @@ returns-in-Err c =
     let s = c.args.state.now in
     step-refl _ _ (refused-by s c.in-Err.refusal (completing s c.args.word) (sym c.accepts.ensures ∙ c.in-Err.is))
 
-pub completing-requires : goal.completing-requires
-completing-requires c =
+pub invariant_of-machine : goal.invariant_of-machine
+invariant_of-machine c =
     let s = c.args.state.now in
     let e = sym c.accepts.ensures ∙ c.in_default.is in
-    fits_by s _ e
+    record { fits = fits_by s _ e; cycle_below = cycle_by s _ e }
 
 pub returns : goal.returns
 returns c =
     let s = c.args.state.now in
-    let e = sym c.accepts.ensures ∙ c.in_default.is in
-    step-refl _ _ (c.completing.ensures ∙ carried_out s _ e (completing s c.args.word))
+    let same = same_reference (λ (z : State). completing z c.args.word) _ _ _ c.complete.ensures in
+    let carried = carried_out s _ (sym c.accepts.ensures ∙ c.in_default.is) (completing s c.args.word) in
+    step-refl _ _ (given_back (λ (z : State). completing z c.args.word) _ _ _ c.complete.ensures _ (search (rules, same)) ∙ carried)

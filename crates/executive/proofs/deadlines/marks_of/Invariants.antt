@@ -1,7 +1,0 @@
--- The tasks before `i` have their marks, and `any` says whether there is one.
-use Rattle.rules.specs.Steps.{falls, released}
-use Rattle.executive.proofs.Marks.{Telling}
-use Rattle.executive.proofs.deadlines.marks_of.Given as goal
-
-abbrev pub invariant-loop-i : goal.invariant-loop-i
-invariant-loop-i l = Telling (falls l.state) l.i l.due × Telling (released l.state) l.i l.released
