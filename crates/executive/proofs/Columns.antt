@@ -3,12 +3,12 @@ use mathlib.Core.Path.{◌≡◌, refl, ap, sym, ◌∙◌}
 use mathlib.Core.Bool.{Bool, true, false, cond}
 use mathlib.Core.List.{List}
 use mathlib.Core.Logic.{◌⊎◌, ⊎_elim}
-use Prim.Native.Nat.{ℕ, ◌+◌}
+use Prim.Native.Nat.{ℕ, ◌+◌, ◌≤◌}
 use lib.ListN.{get_or, set, replicate}
 use Rattle.rules.specs.Counting.{map_below, column}
 use Rattle.rules.specs.declared.State.{State}
 use Rattle.rules.proofs.Tests.{cond_true, cond_false}
-use Rattle.rules.proofs.Counting.{map_below-turn, map_below-skip}
+use Rattle.rules.proofs.Counting.{map_below-turn, map_below-skip, map_below-end}
 
 -- a turn of a loop that stores v at place i of a column if a test holds: `get` reads the column of a state, and `put` gives the state with
 -- another
@@ -33,3 +33,7 @@ module _ {A : Type 0} (get : State → List A) (put : State → List A → State
 module _ {A : Type 0} (f : ℕ → A) (z : A) (places : ℕ) where
   pub column-more : (i : ℕ) (out : List A) (v : A) → out ≡ column f i z places → v ≡ f i → set out i v ≡ column f (i + 1) z places
   column-more i out v e q = map_below-turn (λ k _. f k) i (replicate places z) out z v e q
+
+  -- the end of such a loop
+  pub column-whole : (n i : ℕ) (out : List A) → i ≤ n → n ≤ i → out ≡ column f i z places → out ≡ column f n z places
+  column-whole n i out a b e = map_below-end (λ k _. f k) n i (replicate places z) out a b e
