@@ -9,6 +9,7 @@ fn mixed(sum: u32, x: u32) -> u32 {
     (sum % 1000003) * 31 + x % 1000
 }
 
+// Each case in turn by `let .. else`, as the programs take an answer apart.
 fn code_of(answer: Answer) -> u32 {
     let Answer::Running(task) = answer else {
         let Answer::Missed(task) = answer else {
@@ -101,6 +102,7 @@ fn times_of(digit: u8) -> u32 {
     }
 }
 
+// The letter is what the bench's programs in C are given too.
 fn run(what: u8, times: u32, file: &mut [u8]) -> u32 {
     let Ok(tables) = Tables::of(file) else {
         return 0;

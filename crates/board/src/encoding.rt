@@ -10,6 +10,9 @@ use crate::columns::{Element, put};
 use crate::layout;
 use rules::{Plan, State};
 
+// That there are words enough, and that the counts are words, stands in each contract here: the words are a slice of the C interface, and a type
+// around them would hold the same fact and lend the slice out of it in each function.
+
 // A row's words stand in as many columns of the state, so the loops over rows go by number.
 fn put_tasks(words: &mut [u32], state: &State)
     requires { state_size ≤ length words.old }

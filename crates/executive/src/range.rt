@@ -32,6 +32,8 @@ fn all_fit<F: Fn(usize) -> bool>(count: usize, fits: F) -> bool
     all
 }
 
+// The tests below owe that there are few enough tasks, and say so one by one: whether a state is a `Machine` is what they find out.
+
 // "the ranges of 3".
 fn times_fit(state: &State) -> bool
     requires { state.now.count ≤ 32 }

@@ -8,6 +8,9 @@ ghost use Rattle.planner.specs.Rounds.{Named, Stepped, ChainsFrom, Square, circl
 
 use rules::ConnectionRow;
 
+// That the rows name tasks (`Named`) stands in three contracts and in no type: the connections are lent, and a type around them would be made at
+// one place and taken apart in each function.
+
 // The tasks to which one connection more leads from the marked ones.
 fn step(connections: &[u16], marks: &[bool; 32]) -> [bool; 32]
     requires { Named connections.now }

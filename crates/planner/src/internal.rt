@@ -18,6 +18,8 @@ pub(crate) struct Columns {
     pub(crate) criticalities: [u8; 32],
 }
 
+// What the square and the tables owe (`Workable`) stands in three contracts and in no type: it speaks of both, which only these functions take
+// together.
 // Both numbers of task i: the least of its own and those of the tasks it reaches, a deadline less the chain to it.
 fn numbers_of(tasks: &[u16], chains: &[[u8; 32]; 32], i: usize) -> Numbers
     requires { Workable tasks.now chains.now × (i < count tasks.now) }

@@ -33,7 +33,7 @@ struct Place {
 fn word(low: u8, high: u8) -> u16
     ensures { result ≡ low + high * 256 }
 {
-    u16::from(low) + u16::from(high) * 256
+    u16::from_le_bytes([low, high])
 }
 
 // Period, deadline and compute, low byte first; criticality; flag.
@@ -123,7 +123,8 @@ fn put_row(table: &mut [u16], at: usize, words: &[u16], store: bool)
     }
 }
 
-// One pass over the records: the answer, and where `store` says so the rows in the tables.
+// One pass over the records: the answer, and where `store` says so the rows in the tables. One function for both passes, so that the first gives
+// the answer of the second by its own clause. It goes from record to record, each as long as its mark says.
 fn pass(
     file: &[u8],
     tasks: &mut [u16],

@@ -19,7 +19,8 @@ pub struct Task {
     pub phase: Phase,
 }
 
-// A machine in columns: one entry a task (32) or a connection (64), those past the counts unused.
+// A machine in columns: one entry a task (32) or a connection (64), those past the counts unused. It stays in columns: the rules and every law
+// of runs speak of them (specs/Views.antt), and rows of structs take three times the instructions.
 #[derive(Clone, Copy)]
 pub struct State {
     // The plan, which no call changes: how many tasks and connection rows there are, their values by table position,
@@ -113,7 +114,8 @@ impl Refusal {
     }
 }
 
-// The answer of the executive: Running and Missed with a task, Refused with number and place.
+// The answer of the executive: Running and Missed with a task, Refused with number and place. A refusal is one of its cases, as 01 has it
+// (specs/Answers.antt, answer_says).
 #[derive(Clone, Copy, Debug, PartialEq, Eq)]
 pub enum Answer {
     Running(usize),
@@ -136,7 +138,8 @@ pub struct Counts {
 }
 
 // The answer of the planner: whether the tables were accepted, the order, both internal numbers of each task by table position, and the
-// common multiple; zeros throughout where the tables were refused.
+// common multiple; zeros throughout where the tables were refused. So the verdict stands beside the columns: a Result of them would answer no
+// zeros (specs/Plan.antt, Refuses).
 #[derive(Clone, Copy)]
 pub struct Plan {
     pub verdict: Result<(), Refusal>,
