@@ -1,5 +1,5 @@
--- What a state in range gives each step, of its plan alone, so that no step changes it: few enough tasks and rows, deadlines of 1 to the
--- period, rows that join tasks, and an order that names tasks.
+-- What a state in range gives each step, the fact that a machine carries: of its plan alone, so that no step changes it. Few enough tasks and
+-- rows, deadlines of 1 to the period, rows that join tasks, and an order that names tasks.
 use Rattle.std.specs.Prelude.{ℕ, ◌≤◌, ◌<◌}
 use Rattle.rules.specs.Sizes.{most_tasks, most_rows}
 use Rattle.rules.specs.Views.{period, deadline, sender, receiver, ordered}

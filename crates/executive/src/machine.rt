@@ -4,10 +4,10 @@ ghost use Rattle.executive.specs.Fits.{Fits};
 
 use rules::State;
 
-// A state in range, lent for one call.
+// A state in range, lent for one call: made where refusals 16 and 15 do not stand, so that no step has to ask for what they test.
 #[derive(Drop)]
 pub(crate) struct Machine<'a> {
     pub(crate) state: &'a mut State,
-    pub ghost fits: { Fits state.now },
-    pub ghost cycle_below: { state.now.cycle < state.now.multiple },
+    ghost fits: { Fits state.now },
+    ghost cycle_below: { state.now.cycle < state.now.multiple },
 }
