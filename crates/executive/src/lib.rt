@@ -27,20 +27,14 @@ pub fn fresh(tasks: &[u16], connections: &[u16]) -> Step
 {
     let plan = planner::plan(tasks, connections);
     match plan.verdict {
-        Ok(()) => {
-            let state = fresh_state(tasks, connections, plan);
-            Step {
-                answer: Answer::Idle,
-                state,
-            }
-        }
-        Err(refusal) => {
-            let state = halted_zeros();
-            Step {
-                answer: Answer::Refused(refusal),
-                state,
-            }
-        }
+        Ok(()) => Step {
+            answer: Answer::Idle,
+            state: fresh_state(tasks, connections, plan),
+        },
+        Err(refusal) => Step {
+            answer: Answer::Refused(refusal),
+            state: halted_zeros(),
+        },
     }
 }
 

@@ -12,12 +12,10 @@ use rules::{Refusal, State};
 fn sizes_fit(state: &State) -> bool
     ensures { result ≡ sizes_fit state.now }
 {
-    (1 <= state.count)
-        & (state.count <= 32)
-        & (state.rows <= 64)
-        & (1 <= state.multiple)
-        & (state.multiple <= 720720)
-        & (state.cycle < state.multiple)
+    (1..=32).contains(&state.count)
+        && state.rows <= 64
+        && (1..=720720).contains(&state.multiple)
+        && state.cycle < state.multiple
 }
 
 // Whether each place below the count fits. Without a branch, so that the compiler takes several places at a time.
@@ -72,8 +70,8 @@ fn order_fits(state: &State) -> bool
     ensures { result ≡ order_fits state.now }
 {
     let mut named = [false; 32];
-    for task in &state.order[..state.count] {
-        let task = *task as usize;
+    for &task in &state.order[..state.count] {
+        let task = task as usize;
         if state.count <= task {
             return false;
         }

@@ -39,8 +39,8 @@ tabled tw cw p a =
       receives = λ c h. omega (arith, (t.joins c h).receiver_task, l.tasks_most);
     }
 
-pub fresh_state-state-requires : goal.fresh_state-state-requires
-fresh_state-state-requires c =
+pub fresh_state-requires : goal.fresh_state-requires
+fresh_state-requires c =
     let p = c.plan-plan.result in
     let tw = c.args.tasks.now in
     let cw = c.args.connections.now in
@@ -53,7 +53,7 @@ returns-in-Ok c =
       plan = p;
       planned = c.plan-plan.ensures;
       starts =
-          starts-accepted c.args.tasks.now c.args.connections.now p p.verdict _ c.in-Ok.is c.fresh_state-state.result c.fresh_state-state.ensures;
+          starts-accepted c.args.tasks.now c.args.connections.now p p.verdict _ c.in-Ok.is c.fresh_state.result c.fresh_state.ensures;
     }
 
 pub returns-in-Err : goal.returns-in-Err
@@ -63,5 +63,5 @@ returns-in-Err c =
       plan = p;
       planned = c.plan-plan.ensures;
       starts =
-          starts-refused c.args.tasks.now c.args.connections.now p p.verdict _ c.in-Err.is c.halted_zeros-state.result c.halted_zeros-state.ensures;
+          starts-refused c.args.tasks.now c.args.connections.now p p.verdict _ c.in-Err.is c.halted_zeros.result c.halted_zeros.ensures;
     }
