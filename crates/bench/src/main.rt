@@ -9,7 +9,7 @@ fn mixed(sum: u32, x: u32) -> u32 {
     (sum % 1000003) * 31 + x % 1000
 }
 
-// Each case in turn by `let .. else`, as the programs take an answer apart.
+// By `let .. else`, the form in which programs take an answer apart here.
 fn code_of(answer: Answer) -> u32 {
     let Answer::Running(task) = answer else {
         let Answer::Missed(task) = answer else {

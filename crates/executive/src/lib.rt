@@ -38,7 +38,8 @@ pub fn fresh(tasks: &[u16], connections: &[u16]) -> Step
     }
 }
 
-// "Tick and completion test 16, 15 .. in that order"; "a refused tick or completion returns the state it was given".
+// "Tick and completion test 16, 15 .. in that order"; "a refused tick or completion returns the state it was given". Each makes its machine by
+// itself: a function that did so for both would have to say what becomes of the lent state, refused and not, in two clauses more.
 pub fn tick(state: &mut State) -> Answer
     ensures { StepIs (tick_of state.old) (step result state.new) }
 {

@@ -57,7 +57,7 @@ fn listing(file: &[u8], out: &mut [u8]) -> usize
     }
 }
 
-// The first 643 bytes decide any file.
+// The first 643 bytes decide any file. The buffers are lent, each with how much of it was read or put, since memory is fixed.
 fn main(rt: HostRuntime) {
     let mut file = io::buffer();
     let n = streams::read_full(&mut rt.stdin(), &mut file);

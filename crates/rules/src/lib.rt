@@ -6,6 +6,8 @@ ghost use Rattle.rules.specs.Answers.{number_of, place_of};
 ghost use Rattle.rules.specs.Tables.{count, rows};
 ghost use Rattle.rules.specs.Rows.{task_row_at, connection_row_at, task_words_of, connection_words_of};
 
+// What is compared or printed nowhere derives Clone and Copy alone.
+
 // In the state each task is idle, waiting or started. Idle is first: it is what stands past the last task.
 #[derive(Clone, Copy, Debug, PartialEq, Eq)]
 pub enum Phase {
@@ -20,7 +22,7 @@ pub struct Task {
 }
 
 // A machine in columns: one entry a task (32) or a connection (64), those past the counts unused. It stays in columns: the rules and every law
-// of runs speak of them (specs/Views.antt), and rows of structs take three times the instructions.
+// of runs speak of them (specs/Views.antt).
 #[derive(Clone, Copy)]
 pub struct State {
     // The plan, which no call changes: how many tasks and connection rows there are, their values by table position,
@@ -109,7 +111,13 @@ impl Refusal {
             | Refusal::CutShort(byte)
             | Refusal::TooMany(byte)
             | Refusal::EndWanted(byte) => byte,
-            _ => 0,
+            Refusal::TaskTable
+            | Refusal::ConnectionTable
+            | Refusal::Multiple
+            | Refusal::LittleRoom
+            | Refusal::NothingRuns
+            | Refusal::Halted
+            | Refusal::OutOfRange => 0,
         }
     }
 }
@@ -149,7 +157,8 @@ pub struct Plan {
     pub multiple: u32,
 }
 
-// The five words of a task, in the table's order.
+// The five words of a task, in the table's order. A flag stays a word, as a connection's kind does: the reader judges no value, and the planner
+// refuses those over 1.
 #[derive(Clone, Copy, Debug, PartialEq, Eq)]
 pub struct TaskRow {
     pub period: u16,

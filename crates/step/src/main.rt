@@ -15,7 +15,8 @@ mod held;
 mod opening;
 mod serving;
 
-// The first bytes of the file that the argument names, 643 of which decide it; none where it is not named, not opened or not read.
+// The first bytes of the file that the argument names, 643 of which decide it; none where it is not named, not opened or not read. The buffers are
+// lent, each with how much of it was read or put, since memory is fixed.
 fn load(rt: &HostRuntime, file: &mut [u8; 4096]) -> usize
     ensures { IsPrefixLen result file.new }
 {
@@ -38,8 +39,9 @@ fn say(rt: &HostRuntime, answer: Answer) {
     let _ = rt.stdout().write_all(&out[..n]);
 }
 
-// One turn: a piece of the input, whose calls are answered before the next is read. The input's end, no byte, ends the last line.
-fn turn(rt: &HostRuntime, desk: &mut Desk) -> std::io::Result<usize> {
+// One turn: a piece of the input, whose calls are answered before the next is read. The input's end, no byte, ends the last line. Whether there
+// may be more.
+fn turn(rt: &HostRuntime, desk: &mut Desk) -> std::io::Result<bool> {
     let mut bytes = [0u8; 1024];
     let mut out = [0u8; 51200];
     let n = streams::read_some(&mut rt.stdin(), &mut bytes);
@@ -49,7 +51,7 @@ fn turn(rt: &HostRuntime, desk: &mut Desk) -> std::io::Result<usize> {
         desk.serve(&bytes[..n], &mut out)
     };
     rt.stdout().write_all(&out[..end])?;
-    Ok(n)
+    Ok(n > 0)
 }
 
 // It goes on until the input has ended or a write has failed. Each turn but the last takes a byte at least: no run has 2^64 - 1 of them.
@@ -59,7 +61,7 @@ fn run(rt: &HostRuntime, state: State) {
         line: Held::new(),
     };
     for _ in 0..u64::MAX {
-        let Ok(1..) = turn(rt, &mut desk) else {
+        let Ok(true) = turn(rt, &mut desk) else {
             return;
         };
     }

@@ -4,7 +4,8 @@ ghost use Rattle.step.specs.Opening.{OpenIs};
 use reader::Tables;
 use rules::{Answer, Step};
 
-// A refused file has the state of a fresh start that is refused: halted, all zeros.
+// A refused file has the state of a fresh start that is refused: halted, all zeros. So the answer is a step, of which `OpenIs` speaks, and no
+// Result of a state.
 pub(crate) fn opened(file: &[u8]) -> Step
     ensures { OpenIs file.now result }
 {
