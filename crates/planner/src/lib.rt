@@ -6,6 +6,7 @@ ghost use Rattle.rules.specs.Plan.{PlanIs};
 ghost use Rattle.planner.specs.Internal.{Workable};
 ghost use Rattle.planner.specs.Stages.{refused_plan, Clear, Checked, WorkedOut, Outcome};
 
+use chains::Links;
 use places::Tables;
 use rules::{Plan, Refusal};
 
@@ -81,7 +82,10 @@ fn plan_chains(tables: Tables) -> Result<Plan, Refusal>
     if let Some(row) = tables.first_uneven() {
         return Err(Refusal::Uneven(row));
     }
-    let chains = chains::square(tables.connections, count as u8);
+    let links = Links {
+        connections: tables.connections,
+    };
+    let chains = links.square(count as u8);
     if let Some(task) = chains::first_circle(&chains, count) {
         return Err(Refusal::Circle(task));
     }
