@@ -44,8 +44,8 @@ returns-in_err-multiple c =
     (over_refused c.args.tables c.requires _ c.count-count.ensures _ c.square-chains.ensures c.in_default.ensures
     c.in_default-first_circle.ensures c.in_default-first_raised.ensures (MatchOption-at_none _ _ none c.multiple_of.ensures))
 
-pub worked_out-requires : goal.worked_out-requires
-worked_out-requires c = all_workable c.args.tables c.requires _ c.count-count.ensures _ c.square-chains.ensures
+pub invariant_of-chained : goal.invariant_of-chained
+invariant_of-chained c = record { workable = all_workable c.args.tables c.requires _ c.count-count.ensures _ c.square-chains.ensures }
 
 pub returns : goal.returns
 returns c =
