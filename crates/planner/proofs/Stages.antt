@@ -162,8 +162,11 @@ module _ (t : lent.Tables) where
     pub all_sized : Sized tw
     all_sized = held.sizes
 
-    pub square_able : (n : ℕ) → n ≡ count tw → Named cw × (n ≤ most_tasks)
-    square_able n e = (rows_named tw cw held, omega (arith, held.lengths.tasks_most))
+    pub all_named : Named cw
+    all_named = rows_named tw cw held
+
+    pub square_able : (n : ℕ) → n ≡ count tw → n ≤ most_tasks
+    square_able n e = omega (arith, held.lengths.tasks_most)
 
     pub uneven_refused : (p : ℕ) → FirstBy (uneven_at t) (rows cw) p → Refused t (refusal.Uneven p)
     uneven_refused p w = place_refused tw cw 5 (rows cw) (uneven_at t) (uneven-told t) none p w

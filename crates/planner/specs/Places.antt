@@ -1,5 +1,5 @@
 -- Whether a refusal stands at a place, by tests of the words of a row: 3 of a task; 4, 5 and 7 of a connection.
-use Rattle.std.specs.Prelude.{◌≡◌, Bool, true, false, not, ◌&&◌, ℕ, ◌%◌, ◌<◌, Option, MatchOption, eqb, leb, ltb}
+use Rattle.std.specs.Prelude.{◌≡◌, Bool, true, false, not, cond, ◌&&◌, ℕ, ◌%◌, ◌<◌, Option, Some, None, MatchOption, eqb, leb, ltb}
 use Rattle.rules.specs.Sizes.{longest_period, least_critical}
 use Rattle.rules.specs.Tables.{count, rows, period, sender, receiver, kind}
 use Rattle.rules.specs.Rows.{task_row_at, connection_row_at}
@@ -41,6 +41,10 @@ sender_of t c = task_row_at t.tasks.now (sender t.connections.now c)
 
 abbrev pub receiver_of : Tables → ℕ → TaskRow
 receiver_of t c = task_row_at t.tasks.now (receiver t.connections.now c)
+
+-- both, where the row is undelayed
+abbrev pub undelayed_at : Tables → ℕ → Option (TaskRow × TaskRow)
+undelayed_at t c = cond (eqb (kind t.connections.now c) 1) (Some (sender_of t c, receiver_of t c)) None
 
 -- the tests of 3 at task i, and of 4, 5 and 7 at row c
 abbrev pub misfit_at : Tables → ℕ → Bool

@@ -8,22 +8,11 @@ ghost use Rattle.planner.specs.Rounds.{Named, Stepped, ChainsFrom, Square, circl
 
 use rules::ConnectionRow;
 
-// That the rows name tasks (`Named`) stands in three contracts and in no type: the connections are lent, and a type around them would be made at
-// one place and taken apart in each function.
-
-// The tasks to which one connection more leads from the marked ones.
-fn step(connections: &[u16], marks: &[bool; 32]) -> [bool; 32]
-    requires { Named connections.now }
-    ensures { Stepped (Link connections.now) marks.now result }
-{
-    let mut next = [false; 32];
-    for c in 0..connections.len() / 3 {
-        let row = ConnectionRow::at(connections, c);
-        if row.kind == 1 && marks[row.sender as usize] {
-            next[row.receiver as usize] = true;
-        }
-    }
-    next
+// The connections, each of which names two of 32 tasks.
+#[derive(Clone, Copy)]
+pub(crate) struct Links<'a> {
+    pub(crate) connections: &'a [u16],
+    ghost named: { Named connections.now },
 }
 
 // Stores k at each marked task.
@@ -37,34 +26,50 @@ fn note(best: &mut [u8; 32], marks: &[bool; 32], k: u8)
     }
 }
 
-// The longest chain of at most n connections from task i to each task. Where no chain has k connections none has more.
-fn chains_from(connections: &[u16], n: u8, i: usize) -> [u8; 32]
-    requires { Named connections.now × (i < most_tasks) }
-    ensures { ChainsFrom (Link connections.now) n i result }
-{
-    let mut marks = [false; 32];
-    marks[i] = true;
-    let mut best = [0; 32];
-    for k in 0..n {
-        marks = step(connections, &marks);
-        if !marks.contains(&true) {
-            break;
+impl Links<'_> {
+    // The tasks to which one connection more leads from the marked ones.
+    fn step(self, marks: &[bool; 32]) -> [bool; 32]
+        ensures { Stepped (Link self.entry.connections.now) marks.now result }
+    {
+        let mut next = [false; 32];
+        for c in 0..self.connections.len() / 3 {
+            let row = ConnectionRow::at(self.connections, c);
+            if row.kind == 1 && marks[row.sender as usize] {
+                next[row.receiver as usize] = true;
+            }
         }
-        note(&mut best, &marks, k + 1);
+        next
     }
-    best
-}
 
-// The square of the chains between n tasks, by value: memory is fixed.
-pub(crate) fn square(connections: &[u16], n: u8) -> [[u8; 32]; 32]
-    requires { Named connections.now × (n ≤ most_tasks) }
-    ensures { Square (Link connections.now) n result }
-{
-    let mut chains = [[0; 32]; 32];
-    for i in 0..n as usize {
-        chains[i] = chains_from(connections, n, i);
+    // The longest chain of at most n connections from task i to each task. Where no chain has k connections none has more.
+    fn chains_from(self, n: u8, i: usize) -> [u8; 32]
+        requires { i < most_tasks }
+        ensures { ChainsFrom (Link self.entry.connections.now) n i result }
+    {
+        let mut marks = [false; 32];
+        marks[i] = true;
+        let mut best = [0; 32];
+        for k in 0..n {
+            marks = self.step(&marks);
+            if !marks.contains(&true) {
+                break;
+            }
+            note(&mut best, &marks, k + 1);
+        }
+        best
     }
-    chains
+
+    // The square of the chains between n tasks, by value: memory is fixed.
+    pub(crate) fn square(self, n: u8) -> [[u8; 32]; 32]
+        requires { n ≤ most_tasks }
+        ensures { Square (Link self.entry.connections.now) n result }
+    {
+        let mut chains = [[0; 32]; 32];
+        for i in 0..n as usize {
+            chains[i] = self.chains_from(n, i);
+        }
+        chains
+    }
 }
 
 // The first of n tasks to which a chain returns.

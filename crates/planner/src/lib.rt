@@ -3,9 +3,10 @@
 
 ghost use Rattle.std.specs.Prelude.{◌≡◌};
 ghost use Rattle.rules.specs.Plan.{PlanIs};
-ghost use Rattle.planner.specs.Internal.{Workable};
 ghost use Rattle.planner.specs.Stages.{refused_plan, Clear, Checked, WorkedOut, Outcome};
 
+use chains::Links;
+use internal::Chained;
 use places::Tables;
 use rules::{Plan, Refusal};
 
@@ -29,14 +30,13 @@ fn refused(refusal: Refusal) -> Plan
 }
 
 // The plan of tables that are not refused, from the square of chains and the common multiple.
-fn worked_out(tasks: &[u16], chains: &[[u8; 32]; 32], multiple: u32) -> Plan
-    requires { Workable tasks.now chains.now }
-    ensures { WorkedOut tasks.now chains.now multiple result }
+fn worked_out(chained: Chained, multiple: u32) -> Plan
+    ensures { WorkedOut chained.entry.tasks.now chained.entry.chains.now multiple result }
 {
-    let columns = internal::columns_of(tasks, chains);
+    let columns = chained.columns();
     Plan {
         verdict: Ok(()),
-        order: order::sort(&columns, tasks.len() / 5),
+        order: order::sort(&columns, chained.tasks.len() / 5),
         deadlines: columns.deadlines,
         criticalities: columns.criticalities,
         multiple,
@@ -81,7 +81,10 @@ fn plan_chains(tables: Tables) -> Result<Plan, Refusal>
     if let Some(row) = tables.first_uneven() {
         return Err(Refusal::Uneven(row));
     }
-    let chains = chains::square(tables.connections, count as u8);
+    let links = Links {
+        connections: tables.connections,
+    };
+    let chains = links.square(count as u8);
     if let Some(task) = chains::first_circle(&chains, count) {
         return Err(Refusal::Circle(task));
     }
@@ -89,7 +92,11 @@ fn plan_chains(tables: Tables) -> Result<Plan, Refusal>
         return Err(Refusal::Raised(row));
     }
     let multiple = multiple::multiple_of(tables.tasks).ok_or(Refusal::Multiple)?;
-    Ok(worked_out(tables.tasks, &chains, multiple))
+    let chained = Chained {
+        tasks: tables.tasks,
+        chains: &chains,
+    };
+    Ok(worked_out(chained, multiple))
 }
 
 // The plan, or the first refusal.

@@ -1,7 +1,7 @@
 // The two tables, and where the refusals 3, 4, 5 and 7 stand in them.
 ghost use Rattle.std.specs.Prelude.{◌≡◌, ◌<◌};
 ghost use Rattle.rules.specs.Tables.{count, rows};
-ghost use Rattle.planner.specs.Places.{fit, joins, uneven, raised, sender_of, receiver_of, Joined, AllJoined, IsFirst, misfit_at, stray_at, uneven_at, raised_at};
+ghost use Rattle.planner.specs.Places.{fit, joins, uneven, raised, Joined, AllJoined, IsFirst, misfit_at, stray_at, undelayed_at, uneven_at, raised_at};
 
 use rules::{ConnectionRow, TaskRow};
 
@@ -60,41 +60,19 @@ impl Tables<'_> {
         self.connections.len() / 3
     }
 
-    // The sender and the receiver of row c.
-    fn ends(self, c: usize) -> (TaskRow, TaskRow)
+    // The sender and the receiver of row c where it is undelayed.
+    fn undelayed(self, c: usize) -> Option<(TaskRow, TaskRow)>
         requires { Joined self c }
-        ensures sender { result.0 ≡ sender_of self.entry c }
-        ensures receiver { result.1 ≡ receiver_of self.entry c }
+        ensures { result ≡ undelayed_at self.entry c }
     {
         let row = ConnectionRow::at(self.connections, c);
-        (
+        if row.kind != 1 {
+            return None;
+        }
+        Some((
             TaskRow::at(self.tasks, row.sender as usize),
             TaskRow::at(self.tasks, row.receiver as usize),
-        )
-    }
-
-    // Whether row c is undelayed, with neither period dividing the other.
-    fn is_uneven(self, c: usize) -> bool
-        requires { Joined self c }
-        ensures { result ≡ uneven_at self.entry c }
-    {
-        if ConnectionRow::at(self.connections, c).kind != 1 {
-            return false;
-        }
-        let (from, to) = self.ends(c);
-        uneven(from, to)
-    }
-
-    // Whether row c is undelayed, from a less critical task with its flag 0 to a more critical one.
-    fn is_raised(self, c: usize) -> bool
-        requires { Joined self c }
-        ensures { result ≡ raised_at self.entry c }
-    {
-        if ConnectionRow::at(self.connections, c).kind != 1 {
-            return false;
-        }
-        let (from, to) = self.ends(c);
-        raised(from, to)
+        ))
     }
 
     // Where 3 stands: the first task with a value outside its size.
@@ -117,7 +95,9 @@ impl Tables<'_> {
         requires { AllJoined self }
         ensures { IsFirst (uneven_at self.entry) (rows self.entry.connections.now) result }
     {
-        (0..self.rows()).find(|c| self.is_uneven(*c))
+        (0..self.rows()).find(|c| self
+            .undelayed(*c)
+            .is_some_and(|(from, to)| uneven(from, to)))
     }
 
     // Where 7 stands: the first undelayed row from a less critical task with its flag 0 to a more critical one.
@@ -125,6 +105,8 @@ impl Tables<'_> {
         requires { AllJoined self }
         ensures { IsFirst (raised_at self.entry) (rows self.entry.connections.now) result }
     {
-        (0..self.rows()).find(|c| self.is_raised(*c))
+        (0..self.rows()).find(|c| self
+            .undelayed(*c)
+            .is_some_and(|(from, to)| raised(from, to)))
     }
 }

@@ -4,7 +4,7 @@ use Rattle.std.proofs.Common.{◌≡◌, Some, None, arith}
 use Rattle.std.proofs.lemmas.Option.{MatchOption-at_some, MatchOption-at_none}
 use Rattle.std.proofs.lemmas.Result.{err_from_is_err_and}
 use Rattle.rules.specs.declared.Refusal.TheVariants as refusal
-use Rattle.planner.proofs.Stages.{all_joined, all_sized, all_workable, square_able, uneven_refused, circle_refused, raised_refused, over_refused, plan_accepted}
+use Rattle.planner.proofs.Stages.{all_joined, all_sized, all_workable, all_named, square_able, uneven_refused, circle_refused, raised_refused, over_refused, plan_accepted}
 use Rattle.planner.proofs.plan_chains.Goals as goal
 
 pub first_uneven-requires : goal.first_uneven-requires
@@ -12,6 +12,9 @@ first_uneven-requires c = all_joined c.args.tables c.requires
 
 pub returns-in-Some : goal.returns-in-Some
 returns-in-Some c = uneven_refused c.args.tables c.requires _ c.in-Some.ensures
+
+pub invariant_of-links : goal.invariant_of-links
+invariant_of-links c = record { named = all_named c.args.tables c.requires }
 
 pub square-chains-requires : goal.square-chains-requires
 square-chains-requires c = square_able c.args.tables c.requires _ c.count-count.ensures
@@ -41,8 +44,8 @@ returns-in_err-multiple c =
     (over_refused c.args.tables c.requires _ c.count-count.ensures _ c.square-chains.ensures c.in_default.ensures
     c.in_default-first_circle.ensures c.in_default-first_raised.ensures (MatchOption-at_none _ _ none c.multiple_of.ensures))
 
-pub worked_out-requires : goal.worked_out-requires
-worked_out-requires c = all_workable c.args.tables c.requires _ c.count-count.ensures _ c.square-chains.ensures
+pub invariant_of-chained : goal.invariant_of-chained
+invariant_of-chained c = record { workable = all_workable c.args.tables c.requires _ c.count-count.ensures _ c.square-chains.ensures }
 
 pub returns : goal.returns
 returns c =

@@ -1,5 +1,5 @@
 use Rattle.planner.proofs.Rounds.{step-none}
-use Rattle.planner.proofs.chains.step.Goals as goal
+use Rattle.planner.proofs.chains.Links.step.Goals as goal
 
 pub loop-c-init : goal.loop-c-init
 loop-c-init c = step-none _ _
