@@ -13,7 +13,8 @@ use rules::{Plan, State};
 // That there are words enough, and that the counts are words, stands in each contract here: the words are a slice of the C interface, and a type
 // around them would hold the same fact and lend the slice out of it in each function.
 
-// A row's words stand in as many columns of the state, so the loops over rows go by number.
+// A row's words stand in as many columns of the state, so the loops over rows go by number. Tasks and connections have a function each: their
+// rows are of five columns and of three, and one loop for both would take the row as a closure with a contract of its own.
 fn put_tasks(words: &mut [u32], state: &State)
     requires { state_size ≤ length words.old }
     ensures { Lays tasks_at (rows_of (task_row state.now) most_tasks) most_task_words words.old words.new }
@@ -57,7 +58,7 @@ fn put_head(words: &mut [u32], state: &State)
         state.ticked.to_word(),
         state.halted.to_word(),
     ];
-    put(words, 0, &head);
+    put(words, layout::COUNT, &head);
 }
 
 fn put_tables(words: &mut [u32], state: &State)
