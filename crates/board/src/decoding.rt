@@ -15,8 +15,8 @@ pub(crate) fn decode(words: &[u32]) -> Option<State>
     }
     let marks: [bool; 2] = column(words, layout::MARKS, 1)?;
     Some(State {
-        count: words[0] as usize,
-        rows: words[1] as usize,
+        count: words[layout::COUNT] as usize,
+        rows: words[layout::ROWS] as usize,
         periods: column(words, layout::PERIODS, layout::TASK_WIDTH)?,
         deadlines: column(words, layout::DEADLINES, layout::TASK_WIDTH)?,
         computes: column(words, layout::COMPUTES, layout::TASK_WIDTH)?,
@@ -26,13 +26,13 @@ pub(crate) fn decode(words: &[u32]) -> Option<State>
         receivers: column(words, layout::RECEIVERS, layout::ROW_WIDTH)?,
         undelayed: column(words, layout::UNDELAYED, layout::ROW_WIDTH)?,
         order: column(words, layout::ORDER, 1)?,
-        multiple: words[2],
+        multiple: words[layout::MULTIPLE],
         tasks: column(words, layout::PHASES, 1)?,
         outputs: column(words, layout::OUTPUTS, 1)?,
         dispatches: column(words, layout::DISPATCHES, 1)?,
         buffers: column(words, layout::BUFFERS, 1)?,
         inputs: column(words, layout::INPUTS, 1)?,
-        cycle: words[3],
+        cycle: words[layout::CYCLE],
         ticked: marks[0],
         halted: marks[1],
     })

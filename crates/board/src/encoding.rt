@@ -1,4 +1,5 @@
-// A state into lent words, and a plan: rows of words one after the other, and columns.
+// A state into lent words, and a plan: rows of words one after the other, and columns. A state's words are an array, so that there is room
+// for it without a clause.
 ghost use Rattle.std.specs.Prelude.{◌≡◌, ◌-◌, ◌≤◌, length};
 ghost use Rattle.rules.specs.Sizes.{most_tasks, most_rows, most_task_words, most_row_words};
 ghost use Rattle.board.specs.Layout.{tasks_at, rows_at, phases_at, plan_size, state_size};
@@ -10,12 +11,9 @@ use crate::columns::{Element, put};
 use crate::layout;
 use rules::{Plan, State};
 
-// That there are words enough, and that the counts are words, stands in each contract here: the words are a slice of the C interface, and a type
-// around them would hold the same fact and lend the slice out of it in each function.
-
-// A row's words stand in as many columns of the state, so the loops over rows go by number.
-fn put_tasks(words: &mut [u32], state: &State)
-    requires { state_size ≤ length words.old }
+// A row's words stand in as many columns of the state, so the loops over rows go by number. Tasks and connections have a function each: their
+// rows are of five columns and of three, and one loop for both would take the row as a closure with a contract of its own.
+fn put_tasks(words: &mut [u32; layout::STATE_WORDS], state: &State)
     ensures { Lays tasks_at (rows_of (task_row state.now) most_tasks) most_task_words words.old words.new }
 {
     for k in 0..32 {
@@ -30,8 +28,7 @@ fn put_tasks(words: &mut [u32], state: &State)
     }
 }
 
-fn put_rows(words: &mut [u32], state: &State)
-    requires { state_size ≤ length words.old }
+fn put_rows(words: &mut [u32; layout::STATE_WORDS], state: &State)
     ensures { Lays rows_at (rows_of (connection_row state.now) most_rows) most_row_words words.old words.new }
 {
     for c in 0..64 {
@@ -45,8 +42,8 @@ fn put_rows(words: &mut [u32], state: &State)
 }
 
 #[tactic(auto, unfolding(crate::specs::StateWords::head_words))]
-fn put_head(words: &mut [u32], state: &State)
-    requires { (state_size ≤ length words.old) × Counted state.now }
+fn put_head(words: &mut [u32; layout::STATE_WORDS], state: &State)
+    requires { Counted state.now }
     ensures { Lays 0 (head_words state.now) tasks_at words.old words.new }
 {
     let head = [
@@ -57,11 +54,10 @@ fn put_head(words: &mut [u32], state: &State)
         state.ticked.to_word(),
         state.halted.to_word(),
     ];
-    put(words, 0, &head);
+    put(words, layout::COUNT, &head);
 }
 
-fn put_tables(words: &mut [u32], state: &State)
-    requires { state_size ≤ length words.old }
+fn put_tables(words: &mut [u32; layout::STATE_WORDS], state: &State)
     ensures { Lays tasks_at (table_words state.now) (phases_at - tasks_at) words.old words.new }
 {
     put_tasks(words, state);
@@ -69,8 +65,7 @@ fn put_tables(words: &mut [u32], state: &State)
     put(words, layout::ORDER, &state.order);
 }
 
-fn put_moving(words: &mut [u32], state: &State)
-    requires { state_size ≤ length words.old }
+fn put_moving(words: &mut [u32; layout::STATE_WORDS], state: &State)
     ensures { Lays phases_at (moving_words state.now) (state_size - phases_at) words.old words.new }
 {
     put(words, layout::PHASES, &state.tasks);
@@ -80,8 +75,8 @@ fn put_moving(words: &mut [u32], state: &State)
     put(words, layout::INPUTS, &state.inputs);
 }
 
-pub(crate) fn put_state(words: &mut [u32], state: &State)
-    requires { (state_size ≤ length words.old) × Counted state.now }
+pub(crate) fn put_state(words: &mut [u32; layout::STATE_WORDS], state: &State)
+    requires { Counted state.now }
     ensures { words.new ≡ stored_in words.old state.now }
 {
     put_head(words, state);
@@ -90,8 +85,8 @@ pub(crate) fn put_state(words: &mut [u32], state: &State)
 }
 
 // The state where the words hold its tables already, as after a call: the tables never change.
-pub(crate) fn put_changes(words: &mut [u32], state: &State)
-    requires { (state_size ≤ length words.old) × (Counted state.now × Part words.old tasks_at (phases_at - tasks_at) (table_words state.now)) }
+pub(crate) fn put_changes(words: &mut [u32; layout::STATE_WORDS], state: &State)
+    requires { Counted state.now × Part words.old tasks_at (phases_at - tasks_at) (table_words state.now) }
     ensures { words.new ≡ stored_in words.old state.now }
 {
     put_head(words, state);

@@ -10,6 +10,14 @@ pub(crate) const PLAN_CRITICALITIES: usize = 65;
 
 pub(crate) const STATE_WORDS: usize = 614;
 
+pub(crate) const COUNT: usize = 0;
+
+pub(crate) const ROWS: usize = 1;
+
+pub(crate) const MULTIPLE: usize = 2;
+
+pub(crate) const CYCLE: usize = 3;
+
 pub(crate) const MARKS: usize = 4;
 
 pub(crate) const TASK_WIDTH: usize = 5;

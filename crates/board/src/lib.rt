@@ -38,11 +38,11 @@ pub extern "C" fn otravelun_plan(tasks: &[u16], connections: &[u16], plan: &mut 
 pub extern "C" fn otravelun_fresh(tasks: &[u16], connections: &[u16], state: &mut [u32]) -> u64
     ensures { FreshTold tasks.now connections.now state.old result state.new }
 {
-    if state.len() < layout::STATE_WORDS {
+    let Some(words) = state.first_chunk_mut::<{ layout::STATE_WORDS }>() else {
         return Refusal::LittleRoom.code();
-    }
+    };
     let start = executive::fresh(tasks, connections);
-    encoding::put_state(state, &start.state);
+    encoding::put_state(words, &start.state);
     start.answer.code()
 }
 
@@ -60,7 +60,10 @@ fn called<F: FnOnce(&mut State) -> Answer>(words: &mut [u32], call: F) -> u64
     if let Answer::Refused(_) = answer {
         return told;
     }
-    encoding::put_changes(words, &state);
+    // The words held a state, so there is always room for one.
+    if let Some(words) = words.first_chunk_mut::<{ layout::STATE_WORDS }>() {
+        encoding::put_changes(words, &state);
+    }
     told
 }
 
