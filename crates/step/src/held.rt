@@ -36,7 +36,7 @@ impl Held {
     pub(crate) fn keep(&mut self, byte: u8)
         ensures { self.new ≡ keeping self.old byte }
     {
-        if !self.bytes.is_full() {
+        if self.bytes.len() < 13 {
             self.bytes.push(byte);
         }
     }

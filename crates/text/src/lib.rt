@@ -40,7 +40,7 @@ fn put_spaced<const N: usize>(line: &mut ArrayVec<u8, N>, n: usize)
     ensures bytes { line.new.items ≡ line.old.items ++ spaced n }
     ensures short { array_vec_len line.new ≤ array_vec_len line.old + 21 }
 {
-    put_text(line, b" ");
+    line.push(b' ');
     put_number(line, n);
 }
 
@@ -65,7 +65,7 @@ fn named_line(word: &[u8], n: usize, out: &mut [u8], at: usize) -> usize
     let mut line: ArrayVec<u8, MOST_ANSWER> = ArrayVec::new();
     put_text(&mut line, word);
     put_spaced(&mut line, n);
-    put_text(&mut line, b"\n");
+    line.push(b'\n');
     append(out, at, line.as_slice())
 }
 
@@ -90,7 +90,7 @@ pub fn refusal_line(number: usize, place: usize, out: &mut [u8], at: usize) -> u
     put_text(&mut line, b"refused");
     put_spaced(&mut line, number);
     put_spaced(&mut line, place);
-    put_text(&mut line, b"\n");
+    line.push(b'\n');
     append(out, at, line.as_slice())
 }
 
@@ -124,6 +124,6 @@ pub fn table_row(
     put_spaced(&mut line, task);
     put_spaced(&mut line, deadline);
     put_spaced(&mut line, criticality);
-    put_text(&mut line, b"\n");
+    line.push(b'\n');
     append(out, at, line.as_slice())
 }
