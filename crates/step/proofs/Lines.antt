@@ -1,4 +1,4 @@
--- The kept bytes of a line in an array of 13: one byte more, with room and without.
+-- The kept bytes of a line, 13 at most: one byte more, with room and without.
 use mathlib.Core.Path.{◌≡◌, refl, sym, ap, ◌∙◌}
 use mathlib.Core.List.{List, [], ◌∷◌, ◌++◌, map, map-id}
 use Prim.Native.Nat.{ℕ, zero, suc, ◌+◌, ◌≤◌, ◌<◌}
@@ -8,6 +8,7 @@ use lib.ListN.{length, take, set, length-append}
 use lib.Seq.{take_all, take-suc-set, take-append-le, length-take-le}
 use Rattle.step.specs.Session.{most_kept, keeping}
 
+-- the byte is kept behind n bytes of an array
 pub keep_room : (l : List ℕ) (n b : ℕ) → length l ≡ most_kept → n < most_kept → take (n + 1) (set l n b) ≡ keeping (take n l) b
 keep_room l n b h k =
     let i : n < length l = omega arith in

@@ -12,7 +12,7 @@ pub(crate) struct Held {
     bytes: ArrayVec<u8, 13>,
 }
 
-// Clauses see the bytes that are kept.
+// Clauses see the bytes that are kept, of which `keeping` and `call_of` speak.
 impl Model for Held {
     ghost use Rattle.std.specs.Prelude.{List, ℕ};
 

@@ -16,6 +16,8 @@ const MOST_ANSWER: usize = 50;
 
 const MOST_ROW: usize = 84;
 
+// A line is written by these three, and not by `write!`, which says what it wrote where it answers Ok, and never that it does: a line
+// that fits has to be put. That there is room is what each requires.
 fn put_text<const N: usize>(line: &mut ArrayVec<u8, N>, text: &[u8])
     requires { array_vec_len line.old + length text.now ≤ N }
     ensures { line.new.items ≡ line.old.items ++ text.now }
