@@ -3,81 +3,47 @@
 // (`Line`) are said of.
 #![tactic(auto)]
 
-ghost use Rattle.std.specs.Prelude.{◌≡◌, List, ℕ, [], ◌++◌, ◌+◌, ◌≤◌, length, take};
+ghost use Rattle.std.specs.Prelude.{◌≡◌, ◌++◌, ◌+◌, ◌≤◌, length};
+ghost use Rattle.arrayvec.specs.ArrayVec.{array_vec_len};
 ghost use Rattle.text.specs.Lines.{decimal, spaced, newline, answer_line, refused_line, bad_line, table_head, table_row};
 ghost use Rattle.text.specs.Buffers.{Line};
 
+use arrayvec::ArrayVec;
 use rules::Answer;
-use std::marker::Model;
 
 // The longest line of an answer, and the longest row of the table.
 const MOST_ANSWER: usize = 50;
 
 const MOST_ROW: usize = 84;
 
-// A line of at most N bytes that is being written. Not by `write!`, which says what it wrote where it answers Ok, and never that it
-// does: a line that fits has to be put.
-#[derive(Drop)]
-struct Draft<const N: usize> {
-    bytes: [u8; N],
-    end: usize,
+// A line is written by these three, and not by `write!`, which says what it wrote where it answers Ok, and never that it does: a line
+// that fits has to be put. That there is room is what each requires.
+fn put_text<const N: usize>(line: &mut ArrayVec<u8, N>, text: &[u8])
+    requires { array_vec_len line.old + length text.now ≤ N }
+    ensures { line.new.items ≡ line.old.items ++ text.now }
+{
+    line.try_extend_from_slice(text).unwrap();
 }
 
-// Clauses see the bytes so far.
-impl<const N: usize> Model for Draft<N> {
-    ghost Value = { List ℕ };
-
-    ghost view = { λ d. take d.end d.bytes };
-
-    ghost invariant = { λ d. d.end ≤ N };
+// A number has at most 20 digits.
+fn put_number<const N: usize>(line: &mut ArrayVec<u8, N>, n: usize)
+    requires { array_vec_len line.old + 20 ≤ N }
+    ensures bytes { line.new.items ≡ line.old.items ++ decimal n }
+    ensures short { array_vec_len line.new ≤ array_vec_len line.old + 20 }
+{
+    let mut digits = [0u8; 20];
+    let count = io::decimal(n as u64, &mut digits);
+    put_text(line, &digits[..count]);
 }
 
-impl<const N: usize> Draft<N> {
-    fn new() -> Self
-        ensures { result ≡ [] }
-    {
-        Draft {
-            bytes: [0; N],
-            end: 0,
-        }
-    }
-
-    fn text(&mut self, text: &[u8])
-        requires { length self.old + length text.now ≤ N }
-        ensures { self.new ≡ self.old ++ text.now }
-    {
-        let end = self.end + text.len();
-        let bytes = &mut self.bytes[..];
-        bytes[self.end..end].copy_from_slice(text);
-        self.end = end;
-    }
-
-    // A number has at most 20 digits.
-    fn number(&mut self, n: usize)
-        requires { length self.old + 20 ≤ N }
-        ensures bytes { self.new ≡ self.old ++ decimal n }
-        ensures short { length self.new ≤ length self.old + 20 }
-    {
-        let mut digits = [0u8; 20];
-        let count = io::decimal(n as u64, &mut digits);
-        self.text(&digits[..count]);
-    }
-
-    // A space and a number.
-    fn spaced(&mut self, n: usize)
-        requires { length self.old + 21 ≤ N }
-        ensures bytes { self.new ≡ self.old ++ spaced n }
-        ensures short { length self.new ≤ length self.old + 21 }
-    {
-        self.text(b" ");
-        self.number(n);
-    }
-
-    fn put(&self, out: &mut [u8], at: usize) -> usize
-        ensures { Line self.now out.old at result out.new }
-    {
-        append(out, at, &self.bytes[..self.end])
-    }
+// A space and a number.
+fn put_spaced<const N: usize>(line: &mut ArrayVec<u8, N>, n: usize)
+    requires { array_vec_len line.old + 21 ≤ N }
+    ensures bytes { line.new.items ≡ line.old.items ++ spaced n }
+    ensures short { array_vec_len line.new ≤ array_vec_len line.old + 21 }
+{
+    line.push(b' ');
+    put_number(line, n);
 }
 
 // Puts a line at a place, and answers the place behind it; with too little room nothing changes and the place is the same.
@@ -98,11 +64,11 @@ fn named_line(word: &[u8], n: usize, out: &mut [u8], at: usize) -> usize
     requires { length word.now + 22 ≤ MOST_ANSWER }
     ensures { Line (word.now ++ spaced n ++ newline) out.old at result out.new }
 {
-    let mut line: Draft<MOST_ANSWER> = Draft::new();
-    line.text(word);
-    line.spaced(n);
-    line.text(b"\n");
-    line.put(out, at)
+    let mut line: ArrayVec<u8, MOST_ANSWER> = ArrayVec::new();
+    put_text(&mut line, word);
+    put_spaced(&mut line, n);
+    line.push(b'\n');
+    append(out, at, line.as_slice())
 }
 
 // `running 2`, `idle`, `missed 1` or `refused 14 0`
@@ -122,12 +88,12 @@ pub fn answer_line(a: Answer, out: &mut [u8], at: usize) -> usize
 pub fn refusal_line(number: usize, place: usize, out: &mut [u8], at: usize) -> usize
     ensures { Line (refused_line number place) out.old at result out.new }
 {
-    let mut line: Draft<MOST_ANSWER> = Draft::new();
-    line.text(b"refused");
-    line.spaced(number);
-    line.spaced(place);
-    line.text(b"\n");
-    line.put(out, at)
+    let mut line: ArrayVec<u8, MOST_ANSWER> = ArrayVec::new();
+    put_text(&mut line, b"refused");
+    put_spaced(&mut line, number);
+    put_spaced(&mut line, place);
+    line.push(b'\n');
+    append(out, at, line.as_slice())
 }
 
 // `bad line`
@@ -155,11 +121,11 @@ pub fn table_row(
 ) -> usize
     ensures { Line (table_row place task deadline criticality) out.old at result out.new }
 {
-    let mut line: Draft<MOST_ROW> = Draft::new();
-    line.number(place);
-    line.spaced(task);
-    line.spaced(deadline);
-    line.spaced(criticality);
-    line.text(b"\n");
-    line.put(out, at)
+    let mut line: ArrayVec<u8, MOST_ROW> = ArrayVec::new();
+    put_number(&mut line, place);
+    put_spaced(&mut line, task);
+    put_spaced(&mut line, deadline);
+    put_spaced(&mut line, criticality);
+    line.push(b'\n');
+    append(out, at, line.as_slice())
 }
