@@ -109,10 +109,6 @@ pub first_of-none : (p : ℕ → Bool) (n : ℕ) → ((k : ℕ) → k < n → p 
 first_of-none p zero b = refl
 first_of-none p (suc n) b = rw (b zero (omega arith)) (ap suc (first_of-none (λ j. p (suc j)) n (λ k l. b (suc k) (omega arith))))
 
--- a loop that searches ends without a find
-pub first_of-end : (p : ℕ → Bool) (n i : ℕ) → i ≤ n → n ≤ i → ((k : ℕ) → k < i → p k ≡ false) → i ≡ first_of p n
-first_of-end p n i a z b = let e : i ≡ n = omega arith in rw e (first_of-none p n (λ k l. b k (omega arith)))
-
 -- what is found holds, nothing before it does, and nothing does where n is the answer
 pub first_of-hit : (p : ℕ → Bool) (n : ℕ) → first_of p n < n → p (first_of p n) ≡ true
 first_of-hit p zero h = absurd (omega arith)
@@ -167,6 +163,3 @@ all_below-same p q (suc n) h = rw (h n (omega arith), all_below-same p q n (λ i
 -- a loop that tests each place: one turn, and the end
 pub all_below-turn : (p : ℕ → Bool) (i : ℕ) (ok : Bool) → ok ≡ all_below p i → ok && p i ≡ all_below p (i + 1)
 all_below-turn p i ok e = rw (add-one, e) refl
-
-pub all_below-end : (p : ℕ → Bool) (n i : ℕ) (ok : Bool) → i ≤ n → n ≤ i → ok ≡ all_below p i → ok ≡ all_below p n
-all_below-end p n i ok a z e = let q : i ≡ n = omega arith in rw q at e

@@ -2,14 +2,13 @@
 -- other are `sets`.
 use mathlib.Core.Path.{◌≡◌, ap}
 use mathlib.Core.List.{List, [], ◌∷◌, ◌++◌}
-use Prim.Native.Nat.{ℕ, suc, ◌+◌, ◌-◌, ◌≤◌, ◌<◌}
+use Prim.Native.Nat.{ℕ, suc, ◌+◌, ◌-◌, ◌≤◌}
 use native.Mathlib.Nat.{add-zero}
-use native.Mathlib.Numerals.{add-one}
 use native.Mathlib.Omega.{arith}
-use lib.ListN.{length, get_or, set, drop, take, length-drop}
+use lib.ListN.{length, set, drop, take, length-drop}
 use borrow.Rule.Slice.PartMut.{put_mid}
 use Rattle.std.proofs.lemmas.List.{append_assoc, drop-drop}
-use lib.Seq.{sets, sets-eq, take_all, take-suc, length-take-le}
+use lib.Seq.{sets, sets-eq, take_all}
 
 module _ {A : Type 0} where
   pub part_from : (s : List A) (k : ℕ) → take (length s - k) (drop k s) ≡ drop k s
@@ -24,9 +23,3 @@ module _ {A : Type 0} where
   pub copied_over : (l vs ys : List A) (at k : ℕ) → at + length vs ≤ length l → k ≡ length vs → ys ≡ vs → put_mid at k l ys ≡ sets l at vs
   copied_over l vs ys at k h e q =
       rw (q, e, sets-eq vs l at h) (simp append_assoc (ap (λ (t : List A). take at l ++ (vs ++ t)) (drop-drop (length vs) at l)))
-
-  -- a loop that stores s from place `at` on: one turn
-  pub sets_turn : (s l out : List A) (at i : ℕ) (d : A) → i < length s → out ≡ sets l at (take i s) → set out (at + i) (get_or s i d) ≡ sets l at (take (i + 1) s)
-  sets_turn s l out at i d h e =
-      let n : length (take i s) ≡ i = length-take-le i s (omega arith) in
-      rw (add-one, take-suc s i d h, e) (rw n at (sets_then (take i s) (get_or s i d ∷ []) l at))

@@ -1,19 +1,16 @@
 -- Laws of the refusals 1 to 8 (01, "Refusals in order"): a table has one refusal at most; the list is gone through number by
 -- number; and what tables hold that none of the numbers stands against.
-use mathlib.Core.Path.{◌≡◌, refl, sym, ◌∙◌, subst}
-use mathlib.Core.Bool.{Bool, true}
+use mathlib.Core.Path.{◌≡◌, refl, sym, subst}
 use mathlib.Core.Logic.{inl, inr, ⊎_elim}
 use mathlib.Core.List.{List}
 use Prim.Native.Nat.{ℕ, suc, ◌*◌, ◌%◌, ◌≤◌, ◌<◌}
 use native.Mathlib.Omega.{arith}
 use lib.ListN.{length, get_or-eq_default}
-use Rattle.rules.specs.Counting.{first_of}
 use Rattle.rules.specs.Sizes.{most_tasks, most_rows, task_width, row_width, most_task_words, most_row_words}
 use Rattle.rules.specs.Tables.{count, rows}
 use Rattle.rules.specs.Chains.{Link, Acyclic}
 use Rattle.rules.specs.Refusals.{InSize, Joins, Bad, Refusal, Sound, refusals, Never}
-use Rattle.rules.proofs.Tests.{lt_or, eq_or, true_false}
-use Rattle.rules.proofs.Counting.{first_of-hit, first_of-before}
+use Rattle.rules.proofs.Tests.{lt_or, eq_or}
 use Rattle.rules.proofs.Chains.{chain_ends}
 
 -- ---------------------------------------------------------------------------------------------------------------------------
@@ -49,21 +46,6 @@ module _ (tw cw : List ℕ) where
   -- a number that stands at place 0
   pub refused-whole : (k : ℕ) → NoneUnder tw cw k → Bad tw cw k 0 → Refusal tw cw k 0
   refused-whole k none b = record { stands = b; first = λ q h. absurd (omega arith); lowest = none }
-
-  -- number k is a test t of each place below n: what the first place with t says
-  module _
-      (k n : ℕ) (t : ℕ → Bool) (says : (q : ℕ) → Bad tw cw k q → (q < n) × (t q ≡ true))
-      (said : (q : ℕ) → (q < n) × (t q ≡ true) → Bad tw cw k q) (none : NoneUnder tw cw k)
-    where
-      pub first_refused : first_of t n < n → Refusal tw cw k (first_of t n)
-      first_refused h = record {
-        stands = said (first_of t n) (h, first_of-hit t n h);
-        first = λ q g b. true_false (sym (says q b).1 ∙ first_of-before t n q g);
-        lowest = none;
-      }
-
-      pub first_passed : n ≤ first_of t n → NoneUnder tw cw (suc k)
-      first_passed h = none_more k none (λ q b. true_false (sym (says q b).1 ∙ first_of-before t n q (omega (arith, (says q b).0))))
 
   -- one number and one place
   pub refusal_one : (k p l q : ℕ) → Refusal tw cw k p → Refusal tw cw l q → (k ≡ l) × (p ≡ q)

@@ -22,12 +22,6 @@ keep_pushed l b h = sym (take_all most_kept (l ++ (b ∷ [])) (omega (arith, len
 pub keep_full : (l : List ℕ) (b : ℕ) → length l ≡ most_kept → l ≡ keeping l b
 keep_full l b h = rw (take-append-le most_kept l (b ∷ []) (omega arith)) (sym (take_all most_kept l (omega arith)))
 
--- a count that is not 0 keeps a byte
-pub some_kept : (n : ℕ) (l : List ℕ) → (n ≡ 0 → ⊥) → length l ≡ most_kept → 0 < length (take n l)
-some_kept zero l h k = absurd (h refl)
-some_kept (suc n) [] h k = absurd (omega arith)
-some_kept (suc n) (b ∷ l) h k = omega arith
-
 -- what owning a struct tells of a field that is an array, without the identity map that stands there
 pub field_length : (k : ℕ) (xs : List ℕ) → length (map (λ (v : ℕ). v) xs) ≡ k → length xs ≡ k
 field_length k xs h = ap length (sym (map-id xs)) ∙ h
