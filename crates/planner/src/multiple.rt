@@ -15,6 +15,7 @@ fn multiple_of_two(a: u32, b: u32) -> Option<u32>
 {
     let larger = a.max(b);
     let smaller = a.min(b);
+    // A `for` and no `find`: that the multiples were tried in turn is its invariant, and over `step_by` with `find` the proof did not close.
     for multiple in (larger..=MOST).step_by(larger as usize) {
         if multiple % smaller == 0 {
             return Some(multiple);
