@@ -85,12 +85,22 @@ pub(crate) fn put_state(words: &mut [u32; layout::STATE_WORDS], state: &State)
 }
 
 // The state where the words hold its tables already, as after a call: the tables never change.
-pub(crate) fn put_changes(words: &mut [u32; layout::STATE_WORDS], state: &State)
+fn put_changes(words: &mut [u32; layout::STATE_WORDS], state: &State)
     requires { Counted state.now × Part words.old tasks_at (phases_at - tasks_at) (table_words state.now) }
     ensures { words.new ≡ stored_in words.old state.now }
 {
     put_head(words, state);
     put_moving(words, state);
+}
+
+// The same in front of lent words that held a state, so that there is room for it.
+pub(crate) fn store(words: &mut [u32], state: &State)
+    requires { (state_size ≤ length words.old) × (Counted state.now × Part words.old tasks_at (phases_at - tasks_at) (table_words state.now)) }
+    ensures { words.new ≡ stored_in words.old state.now }
+{
+    if let Some(front) = words.first_chunk_mut::<{ layout::STATE_WORDS }>() {
+        put_changes(front, state);
+    }
 }
 
 pub(crate) fn put_plan(words: &mut [u32], plan: &Plan)

@@ -60,10 +60,7 @@ fn called<F: FnOnce(&mut State) -> Answer>(words: &mut [u32], call: F) -> u64
     if let Answer::Refused(_) = answer {
         return told;
     }
-    // The words held a state, so there is always room for one.
-    if let Some(words) = words.first_chunk_mut::<{ layout::STATE_WORDS }>() {
-        encoding::put_changes(words, &state);
-    }
+    encoding::store(words, &state);
     told
 }
 
