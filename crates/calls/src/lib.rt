@@ -14,7 +14,7 @@ pub enum Call {
 #[derive(Clone, Copy, Debug, PartialEq, Eq)]
 pub struct BadLine;
 
-// One to ten digits, at most 4,294,967,295.
+// One to ten digits, at most 4,294,967,295. Digit by digit, since `str::parse` takes a sign as well.
 fn word(digits: &[u8]) -> Result<u32, BadLine>
     ensures { result ≡ word_of digits.now }
 {
