@@ -9,9 +9,9 @@ ghost use Rattle.rules.specs.Steps.{step};
 
 use rules::{Answer, State, Step};
 
-mod start; // the columns of the tables
+mod start; // a fresh state
 mod range; // refusals 16 and 15
-mod machine; // what the steps are methods of
+mod machine; // a state in range, lent for one call
 mod deadlines; // step 1 of a tick, and step 5
 mod exchange; // steps 2 and 3
 mod choice; // step 4

@@ -33,7 +33,8 @@ fn at_rest() -> State
     }
 }
 
-// "A fresh state", of the tables and their plan.
+// "A fresh state", of the tables and their plan. (A literal takes neither an array out of another value nor the rest of a call, so both have a name
+// first.)
 pub(crate) fn fresh_state(tasks: &[u16], connections: &[u16], plan: Plan) -> State
     requires { Tabled tasks.now connections.now }
     ensures { result ≡ fresh_state tasks.now connections.now plan }

@@ -7,7 +7,7 @@ use crate::machine::Machine;
 use rules::Answer;
 
 impl Machine<'_> {
-    // Of a state that is not halted. "Tick at cycle t, in this order".
+    // "Tick at cycle t, in this order".
     pub(crate) fn tick(&mut self) -> Answer
         ensures { (result, self.new.state) ≡ stepped ticking self.old.state }
     {
