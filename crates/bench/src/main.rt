@@ -9,7 +9,7 @@ fn mixed(sum: u32, x: u32) -> u32 {
     (sum % 1000003) * 31 + x % 1000
 }
 
-// By `let .. else`, the form in which programs take an answer apart here.
+// By `let .. else`: "programs and the desk run take the answer apart" so.
 fn code_of(answer: Answer) -> u32 {
     let Answer::Running(task) = answer else {
         let Answer::Missed(task) = answer else {
@@ -82,7 +82,7 @@ fn counts_code(counts: Counts) -> u32 {
     (counts.tasks % 1000) as u32 + (counts.connections % 1000) as u32
 }
 
-// The first task's criticality changes with the sum.
+// The first task's criticality changes with the sum. Tables of its own, since `read` itself is measured.
 fn run_reads(file: &mut [u8], times: u32) -> u32 {
     let mut tasks = [0; 160];
     let mut connections = [0; 192];
@@ -110,6 +110,7 @@ fn run(what: u8, times: u32, file: &mut [u8]) -> u32 {
     match what {
         b't' => run_ticks(&tables, times),
         b'p' => {
+            // A copy, which the plans change.
             let mut tasks = [0; 160];
             let words = tables.tasks().len();
             tasks[..words].copy_from_slice(tables.tasks());

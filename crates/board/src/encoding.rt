@@ -1,5 +1,5 @@
 // A state into lent words, and a plan: rows of words one after the other, and columns. A state's words are an array, so that there is room
-// for it without a clause.
+// for it without a clause; `store` alone takes the lent words, behind a `decode` that found enough of them.
 ghost use Rattle.std.specs.Prelude.{◌≡◌, ◌-◌, ◌≤◌, length};
 ghost use Rattle.rules.specs.Sizes.{most_tasks, most_rows, most_task_words, most_row_words};
 ghost use Rattle.board.specs.Layout.{tasks_at, rows_at, phases_at, plan_size, state_size};

@@ -1,5 +1,5 @@
-// The places of the words that are lent (specs/Layout.antt): where each column begins, how far apart its words stand, and how many
-// words there are.
+// The places of the words that are lent, as the C interface has them (specs/Layout.antt): where each column begins, how far apart its words
+// stand, and how many words there are.
 pub(crate) const PLAN_WORDS: usize = 97;
 
 pub(crate) const PLAN_ORDER: usize = 1;

@@ -38,7 +38,7 @@ fn raised(from: TaskRow, to: TaskRow) -> bool
     (to.criticality < from.criticality) && from.flag == 0
 }
 
-// Both tables, as they are lent.
+// Both tables, as they are lent. That a row joins two tasks (`Joined`) is of one row, so it stands with the functions of a row.
 #[derive(Clone, Copy)]
 pub(crate) struct Tables<'a> {
     pub(crate) tasks: &'a [u16],

@@ -64,7 +64,7 @@ fn connection_row(body: &[u8]) -> ConnectionRow
     }
 }
 
-// The mark decides the record, as a number; the body is the part of the file after the mark.
+// The mark decides the record, matched as a number; the body is the part of the file after the mark. Both are 01's forms.
 #[tactic(auto, unfolding(rules::specs::File::marked))]
 fn record_at(mark: u16, body: &[u8], at: Place) -> Result<Item, Refusal>
     requires { at.byte < 9223372036854775808 }

@@ -6,7 +6,8 @@ ghost use Rattle.rules.specs.Answers.{number_of, place_of};
 ghost use Rattle.rules.specs.Tables.{count, rows};
 ghost use Rattle.rules.specs.Rows.{task_row_at, connection_row_at, task_words_of, connection_words_of};
 
-// What is compared or printed nowhere derives Clone and Copy alone.
+// Small values can be compared and printed. A machine's own, `Task`, `State`, `Step` and `Plan`, derive Clone and Copy alone: nothing asks for more
+// of them.
 
 // In the state each task is idle, waiting or started. Idle is first: it is what stands past the last task.
 #[derive(Clone, Copy, Debug, PartialEq, Eq)]
@@ -40,7 +41,7 @@ pub struct State {
     pub order: [u8; 32],
     pub multiple: u32,
     // What the calls change: each task's phase, output word and latest dispatch cycle, each connection's buffer and
-    // input word, the cycle of the next tick, whether there was a tick yet, and whether a deadline was missed.
+    // input word, the cycle of the next tick, and the state's own two marks: whether there was a tick yet, and whether a deadline was missed.
     pub tasks: [Task; 32],
     pub outputs: [u32; 32],
     pub dispatches: [u32; 32],
@@ -168,6 +169,7 @@ pub struct TaskRow {
     pub flag: u16,
 }
 
+// By `at` and `words` and by no From: a place in the table goes with the one, and the table's order with the other.
 impl TaskRow {
     // Task i of a table.
     pub fn at(tasks: &[u16], i: usize) -> TaskRow

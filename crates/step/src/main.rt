@@ -54,7 +54,8 @@ fn turn(rt: &HostRuntime, desk: &mut Desk) -> std::io::Result<bool> {
     Ok(n > 0)
 }
 
-// It goes on until the input has ended or a write has failed. Each turn but the last takes a byte at least: no run has 2^64 - 1 of them.
+// It goes on until the input has ended or a write has failed. Each turn but the last takes a byte at least, so no run has
+// 2^64 - 1 of them: a count, since a loop has to be known to end.
 fn run(rt: &HostRuntime, state: State) {
     let mut desk = Desk {
         state,

@@ -25,7 +25,7 @@ fn put_text<const N: usize>(line: &mut ArrayVec<u8, N>, text: &[u8])
     line.try_extend_from_slice(text).unwrap();
 }
 
-// A number has at most 20 digits.
+// A number has at most 20 digits, which the kit's `decimal` puts into a lent array and counts.
 fn put_number<const N: usize>(line: &mut ArrayVec<u8, N>, n: usize)
     requires { array_vec_len line.old + 20 ≤ N }
     ensures bytes { line.new.items ≡ line.old.items ++ decimal n }
