@@ -1,12 +1,13 @@
 -- What a case of 01's "Numbers from the bench" says, and deciding it by computation. A case is two tables, the plan that the planner
 -- must answer to them, and what runs of calls from the fresh start of that plan show.
 use mathlib.Core.Path.{◌≡◌, ap}
-use mathlib.Core.Bool.{Bool, true, false}
+use mathlib.Core.Bool.{Bool, true, false, cond, ◌&&◌}
 use mathlib.Core.List.{List, [], ◌∷◌, ◌++◌}
 use Prim.Native.Nat.{ℕ, suc, ◌-◌, ◌*◌, ◌<◌}
+use lib.Dec.{eqb}
 use lib.ListN.{length, replicate}
 use Rattle.rules.specs.Sizes.{most_tasks}
-use Rattle.rules.specs.Answers.{Told, answer_says}
+use Rattle.rules.specs.Answers.{Told, number_of, place_of, answer_says}
 use Rattle.rules.specs.Plan.{PlanIs}
 use Rattle.rules.specs.Views.{period, sender, receiver, started, phase_of, input}
 use Rattle.rules.specs.Steps.{falls}
@@ -17,7 +18,8 @@ use Rattle.rules.specs.Runs.{Call, Call.tick, Moment, start, after, counted, Job
 use Rattle.rules.specs.declared.State.{State}
 use Rattle.rules.specs.declared.Plan.{Plan}
 use Rattle.rules.specs.declared.Answer.{Answer}
-use Rattle.std.specs.Prelude.{Ok, Err}
+use Rattle.std.specs.Prelude.{Result, Ok, Err}
+use Rattle.rules.specs.declared.Refusal.{Refusal}
 use Rattle.rules.proofs.Answers.{refusal_of}
 use Rattle.rules.proofs.Deciding.{Decision, restated, both, where_so, all, some, every, equal, lt, tested, Each}
 use Rattle.rules.proofs.DecidingPlans.{plan_is}
@@ -99,9 +101,15 @@ accepted order deadlines criticalities multiple = record {
   multiple = multiple;
 }
 
+-- the verdict that tells this number and this place; a number or a place that no refusal of the list has is no refusal, and so no verdict of zeros
+abbrev refused_by : ℕ → ℕ → Result (Unit {0}) Refusal
+refused_by number place =
+    let f = refusal_of number place in
+    cond (eqb (number_of f) number && eqb (place_of f) place) (Err f) (Ok tt)
+
 abbrev pub refused : ℕ → ℕ → Plan
 refused number place = record {
-  verdict = Err (refusal_of number place);
+  verdict = refused_by number place;
   order = padded [];
   deadlines = padded [];
   criticalities = padded [];
