@@ -29,7 +29,7 @@ use Rattle.rules.proofs.Runs.Words.{delivered_started}
 use Rattle.rules.proofs.Runs.Twice.{two_runs}
 use Rattle.rules.proofs.Runs.Always.{always_in_range, always_settled}
 use Rattle.reader.proofs.ReadIs.{read_tables}
-use Rattle.demands.specs.Demands.{AcceptedStart, FileStart, Tabled, Demand}
+use Rattle.demands.specs.Demands.{AcceptedStart, FileStart, TablesStart, Tabled, Demand}
 use Rattle.demands.specs.Programs.{Held, Ticker, MeetsTick, Completer, MeetsComplete}
 use Rattle.demands.proofs.Named.{counted-named}
 use Rattle.demands.proofs.Held.{fresh_held}
@@ -108,20 +108,31 @@ pub idle-accepted : (tw cw : List ℕ) (r : Step) → FreshIs tw cw r → r.answ
 idle-accepted tw cw r f e = record { fresh = f; accepted = idle-verdict tw cw f.plan r f.plan.verdict f.starts e }
 
 -- ---------------------------------------------------------------------------------------------------------------------------
--- From the file: the words that the reader leaves in front of the tables are the file's
+-- From the file: the words that the reader leaves in front of the tables are the file's, and so are those of a file's own tables
 
-module _ (file : List ℕ) (r : Step) (s : FileStart file r) where
+module _ (file : List ℕ) (r : Step) where
   abbrev tw : List ℕ
   tw = task_words (contents_of file)
 
   abbrev cw : List ℕ
   cw = connection_words (contents_of file)
 
-  pub file_accepted : AcceptedStart tw cw r
-  file_accepted =
+  abbrev Demanded : Type 0
+  Demanded = (f : Ticker) (g : Completer) → MeetsTick f → MeetsComplete g → Tabled tw cw r.state × Demand r.state (after_by f.run g.run (start r.state))
+
+  demanded : AcceptedStart tw cw r → Demanded
+  demanded a f g ticks completes = (start-tabled tw cw r a, demand_by tw cw r a f g ticks completes)
+
+  pub file_accepted : FileStart file r → AcceptedStart tw cw r
+  file_accepted s =
       let a = read_tables s.read refl in
       idle-accepted tw cw r (rw (a.task_front, a.row_front) at s.fresh) s.idle
 
-  pub file_demand : (f : Ticker) (g : Completer) → MeetsTick f → MeetsComplete g →
-      Tabled tw cw r.state × Demand r.state (after_by f.run g.run (start r.state))
-  file_demand f g ticks completes = (start-tabled tw cw r file_accepted, demand_by tw cw r file_accepted f g ticks completes)
+  pub file_demand : FileStart file r → Demanded
+  file_demand s = demanded (file_accepted s)
+
+  pub tables_accepted : TablesStart file r → AcceptedStart tw cw r
+  tables_accepted s = idle-accepted tw cw r (rw (s.read.task_table, s.read.row_table) at s.fresh) s.idle
+
+  pub tables_demand : TablesStart file r → Demanded
+  tables_demand s = demanded (tables_accepted s)

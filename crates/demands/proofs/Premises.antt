@@ -9,14 +9,14 @@ use Rattle.rules.specs.declared.Step.{Step}
 use Rattle.rules.specs.declared.Answer.TheVariants as answer
 use Rattle.rules.specs.Sizes.{most_task_words, most_row_words}
 use Rattle.rules.specs.File.{records, onward, item_at, marked, task_row, connection_row, reading_of, task_words, connection_words, read_of, filled}
-use Rattle.rules.specs.Fresh.{start_of}
+use Rattle.rules.specs.Fresh.{FreshIs, start_of}
 use Rattle.rules.specs.Steps.{step}
 use Rattle.rules.specs.Calls.{tick_of, complete_of}
 use Rattle.rules.specs.Runs.{start, after_by}
 use Rattle.rules.proofs.Tests.{false_true}
 use Rattle.rules.proofs.Answers.{step-refl}
 use Rattle.rules.proofs.Session.{session, session_tasks, session_rows, session_plan, session_planned, session_file}
-use Rattle.demands.specs.Demands.{FileStart, ReadsAsNamed}
+use Rattle.demands.specs.Demands.{FileStart, TablesStart, ReadsAsNamed}
 use Rattle.demands.specs.Programs.{Held, Ticker, MeetsTick, Completer, MeetsComplete}
 use Rattle.demands.specs.ShutOut.{CopiesAtFirstOnly, NamesTasks}
 use Rattle.demands.proofs.Held.{moved-held, tick_held, complete_held}
@@ -39,10 +39,14 @@ pub ruled_complete_meets : MeetsComplete ruled_complete
 ruled_complete_meets s w h l = step-refl (complete_of s w) (complete_of s w) refl
 
 -- ---------------------------------------------------------------------------------------------------------------------------
--- The session's file, read into tables of zeros
+-- The session's file: read into tables of zeros, and into its own
+
+session_fresh : FreshIs session_tasks session_rows (step answer.Idle session)
+unfolding start_of
+session_fresh = record { plan = session_plan; planned = session_planned; starts = step-refl _ _ refl }
 
 pub session_starts : FileStart session_file (step answer.Idle session)
-unfolding records onward item_at marked task_row connection_row reading_of task_words connection_words read_of filled start_of
+unfolding records onward item_at marked task_row connection_row reading_of task_words connection_words read_of filled
 session_starts = record {
   lent_tasks = replicate most_task_words 0;
   lent_rows = replicate most_row_words 0;
@@ -51,7 +55,16 @@ session_starts = record {
   t = 3;
   c = 3;
   read = record { told = refl; task_table = refl; row_table = refl };
-  fresh = record { plan = session_plan; planned = session_planned; starts = step-refl _ _ refl };
+  fresh = session_fresh;
+  idle = refl;
+}
+
+pub session_tables_start : TablesStart session_file (step answer.Idle session)
+unfolding records onward item_at marked task_row connection_row reading_of task_words connection_words read_of
+session_tables_start = record {
+  words = record { tasks = session_tasks; connections = session_rows };
+  read = record { counts = (3, 3); read = refl; task_table = refl; row_table = refl };
+  fresh = session_fresh;
   idle = refl;
 }
 

@@ -13,6 +13,7 @@ use Rattle.rules.specs.Range.{in_range}
 use Rattle.rules.specs.Fresh.{FreshIs}
 use Rattle.rules.specs.Runs.{Call, Sent, Run, Runs, JobAt, Job, OrderKept, Numbered, Recorded, Sampled, TwoRuns}
 use Rattle.reader.specs.Read.{ReadIs}
+use Rattle.reader.specs.Tables.{Words, TablesAre}
 
 -- "an accepted fresh start": r answers fresh start's call on the two tables, and the planner's verdict on them is that they are accepted
 pub record AcceptedStart (tw cw : List ℕ) (r : Step) : Type 0 where
@@ -30,6 +31,13 @@ pub record FileStart (file : List ℕ) (r : Step) : Type 0 where
   pub c : ℕ
   pub read : ReadIs file lent_tasks lent_rows (Ok (record { tasks = t; connections = c })) left_tasks left_rows
   pub fresh : FreshIs (take (t * task_width) left_tasks) (take (c * row_width) left_rows) r
+  pub idle : r.answer ≡ answer.Idle
+
+-- the same of a file's own tables, by which the programs go: `Tables::of` answers these words, and fresh start, called on them, answers Idle
+pub record TablesStart (file : List ℕ) (r : Step) : Type 0 where
+  pub words : Words
+  pub read : TablesAre file (Ok words)
+  pub fresh : FreshIs words.tasks words.connections r
   pub idle : r.answer ≡ answer.Idle
 
 -- the plan of a state is that of two tables: all that the demand asks of a plan is the tables' own
