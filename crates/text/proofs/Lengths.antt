@@ -4,10 +4,10 @@ use Prim.Native.Nat.{ℕ, ◌+◌, ◌≤◌}
 use native.Mathlib.Omega.{arith}
 use lib.ListN.{length, length-append}
 use borrow.Author.Tests.{le-leb}
-use Rattle.rules.specs.Answers.{number_of, place_of}
 use Rattle.rules.specs.declared.Answer.{Answer}
-use Rattle.rules.specs.declared.Answer.TheVariants as answer
-use Rattle.text.specs.Lines.{answer_line, refused_line, table_row}
+use Rattle.text.specs.declared.Spoken.{Spoken}
+use Rattle.text.specs.declared.Spoken.TheVariants as spoken
+use Rattle.text.specs.Lines.{spoken_line, spoken_of, answer_line, refused_line, table_row}
 use Rattle.text.specs.Buffers.{Put, Line}
 use Rattle.text.proofs.Digits.{decimal-length}
 
@@ -21,12 +21,15 @@ most_row = 84
 pub refusal_length : (number place : ℕ) → length (refused_line number place) ≤ most_answer
 refusal_length number place = simp length-append (omega (arith, decimal-length number, decimal-length place))
 
+pub spoken_length : (a : Spoken) → length (spoken_line a) ≤ most_answer
+unfolding spoken_line
+spoken_length (spoken.Running i) = simp length-append (omega (arith, decimal-length i))
+spoken_length spoken.Idle = omega arith
+spoken_length (spoken.Missed i) = simp length-append (omega (arith, decimal-length i))
+spoken_length (spoken.Refused number place) = refusal_length number place
+
 pub answer_length : (a : Answer) → length (answer_line a) ≤ most_answer
-unfolding answer_line
-answer_length (answer.Running i) = simp length-append (omega (arith, decimal-length i))
-answer_length answer.Idle = omega arith
-answer_length (answer.Missed i) = simp length-append (omega (arith, decimal-length i))
-answer_length (answer.Refused f) = refusal_length (number_of f) (place_of f)
+answer_length a = spoken_length (spoken_of a)
 
 pub row_length : (place task deadline criticality : ℕ) → length (table_row place task deadline criticality) ≤ most_row
 row_length place task deadline criticality =

@@ -3,6 +3,8 @@ use Rattle.std.specs.Prelude.{cond, List, [], ◌∷◌, ◌++◌, ℕ, zero, su
 use Rattle.rules.specs.Answers.{number_of, place_of}
 use Rattle.rules.specs.declared.Answer.{Answer}
 use Rattle.rules.specs.declared.Answer.TheVariants as answer
+use Rattle.text.specs.declared.Spoken.{Spoken}
+use Rattle.text.specs.declared.Spoken.TheVariants as spoken
 
 -- a number in base ten with no zero in front, where so many digits are enough
 unfoldable pub within : ℕ → ℕ → List ℕ
@@ -36,12 +38,22 @@ refused = codes "refused"
 abbrev pub refused_line : ℕ → ℕ → List ℕ
 refused_line number place = refused ++ spaced number ++ spaced place ++ newline
 
--- "`running` and a task, `idle`, `missed` and a task, or `refused`, number and place"
-unfoldable pub answer_line : Answer → List ℕ
-answer_line (answer.Running i) = running ++ spaced i ++ newline
-answer_line answer.Idle = idle ++ newline
-answer_line (answer.Missed i) = missed ++ spaced i ++ newline
-answer_line (answer.Refused f) = refused_line (number_of f) (place_of f)
+-- "`running` and a task, `idle`, `missed` and a task, or `refused`, number and place", be they of the list or not
+unfoldable pub spoken_line : Spoken → List ℕ
+spoken_line (spoken.Running i) = running ++ spaced i ++ newline
+spoken_line spoken.Idle = idle ++ newline
+spoken_line (spoken.Missed i) = missed ++ spaced i ++ newline
+spoken_line (spoken.Refused number place) = refused_line number place
+
+-- an answer as its line says it: a refusal by its number and place
+abbrev pub spoken_of : Answer → Spoken
+spoken_of (answer.Running i) = spoken.Running i
+spoken_of answer.Idle = spoken.Idle
+spoken_of (answer.Missed i) = spoken.Missed i
+spoken_of (answer.Refused f) = spoken.Refused (number_of f) (place_of f)
+
+abbrev pub answer_line : Answer → List ℕ
+answer_line a = spoken_line (spoken_of a)
 
 -- "any other line prints `bad line`"
 abbrev pub bad_line : List ℕ

@@ -5,8 +5,9 @@
 
 ghost use Rattle.std.specs.Prelude.{◌≡◌, ◌++◌, ◌+◌, ◌≤◌, length};
 ghost use Rattle.arrayvec.specs.ArrayVec.{array_vec_len};
-ghost use Rattle.text.specs.Lines.{decimal, spaced, newline, answer_line, refused_line, bad_line, table_head, table_row};
+ghost use Rattle.text.specs.Lines.{decimal, spaced, newline, spoken_of, spoken_line, refused_line, bad_line, table_head, table_row};
 ghost use Rattle.text.specs.Buffers.{Line};
+ghost use Rattle.text.specs.declared.Spoken.{Spoken};
 
 use arrayvec::ArrayVec;
 use rules::Answer;
@@ -71,16 +72,54 @@ fn named_line(word: &[u8], n: usize, out: &mut [u8], at: usize) -> usize
     append(out, at, line.as_slice())
 }
 
+// An answer as its line says it: a refusal by any number and place, be they of the list or not.
+#[derive(Clone, Copy, Debug, PartialEq, Eq)]
+pub enum Spoken {
+    Running(usize),
+    Idle,
+    Missed(usize),
+    Refused(usize, usize),
+}
+
+// What can be said on an answer's line.
+pub trait Speaks {
+    ghost says: { Self → Spoken };
+
+    fn speak(self) -> Spoken
+        ensures { result ≡ says self };
+}
+
+impl Speaks for Spoken {
+    ghost says = { λ a. a };
+
+    fn speak(self) -> Spoken {
+        self
+    }
+}
+
+impl Speaks for Answer {
+    ghost says = { spoken_of };
+
+    fn speak(self) -> Spoken {
+        match self {
+            Answer::Running(task) => Spoken::Running(task),
+            Answer::Idle => Spoken::Idle,
+            Answer::Missed(task) => Spoken::Missed(task),
+            Answer::Refused(refusal) => Spoken::Refused(refusal.number(), refusal.place()),
+        }
+    }
+}
+
 // `running 2`, `idle`, `missed 1` or `refused 14 0`
-#[tactic(auto, unfolding(crate::specs::Lines::answer_line))]
-pub fn answer_line(a: Answer, out: &mut [u8], at: usize) -> usize
-    ensures { Line (answer_line a) out.old at result out.new }
+#[tactic(auto, unfolding(crate::specs::Lines::spoken_line))]
+pub fn answer_line<A: Speaks>(a: A, out: &mut [u8], at: usize) -> usize
+    ensures { Line (spoken_line (A.says a)) out.old at result out.new }
 {
-    match a {
-        Answer::Running(task) => named_line(b"running", task, out, at),
-        Answer::Idle => append(out, at, b"idle\n"),
-        Answer::Missed(task) => named_line(b"missed", task, out, at),
-        Answer::Refused(refusal) => refusal_line(refusal.number(), refusal.place(), out, at),
+    match a.speak() {
+        Spoken::Running(task) => named_line(b"running", task, out, at),
+        Spoken::Idle => append(out, at, b"idle\n"),
+        Spoken::Missed(task) => named_line(b"missed", task, out, at),
+        Spoken::Refused(number, place) => refusal_line(number, place, out, at),
     }
 }
 
