@@ -10,6 +10,11 @@ ghost use Rattle.reader.specs.Read.{stored, PassIs, ReadIs};
 
 use rules::{ConnectionRow, Counts, Refusal, TaskRow};
 
+// How many words of tasks and of connections a file can have, and so the room that both tables need.
+const MOST_TASK_WORDS: usize = 160;
+
+const MOST_ROW_WORDS: usize = 192;
+
 mod tables;
 
 pub use tables::Tables;
@@ -163,7 +168,7 @@ fn pass(
 pub fn read(file: &[u8], tasks: &mut [u16], connections: &mut [u16]) -> Result<Counts, Refusal>
     ensures { ReadIs file.now tasks.old connections.old result tasks.new connections.new }
 {
-    if tasks.len() < 160 || connections.len() < 192 {
+    if tasks.len() < MOST_TASK_WORDS || connections.len() < MOST_ROW_WORDS {
         return Err(Refusal::LittleRoom);
     }
     pass(file, tasks, connections, false)?;

@@ -10,6 +10,9 @@ use crate::held::Held;
 use calls::{BadLine, Call};
 use rules::{Answer, State};
 
+// What ends a line.
+const LINE_END: u8 = b'\n';
+
 // Between two bytes: the state, and the line that has begun.
 #[derive(Drop)]
 pub(crate) struct Desk {
@@ -46,7 +49,7 @@ impl Desk {
     {
         let mut end = 0;
         for &byte in bytes {
-            if byte == b'\n' {
+            if byte == LINE_END {
                 end = obey(&mut self.state, self.line.asked(), out, end);
                 self.line = Held::new();
             } else {
