@@ -1,10 +1,13 @@
 -- 9 is tested first. A pass that stores nothing gives the answer; only an accepted file has the pass that stores.
+use Rattle.std.proofs.Common.{arith}
 use Rattle.std.proofs.lemmas.Result.{err_from_is_err_and}
 use Rattle.reader.proofs.ReadIs.{read_short, read_refused, read_accepted}
 use Rattle.reader.proofs.read.Goals as goal
 
 pub returns-then-tasks-lt-MOST_TASK_WORDS : goal.returns-then-tasks-lt-MOST_TASK_WORDS
-returns-then-tasks-lt-MOST_TASK_WORDS c = read_short _ _ _ c.then-tasks-lt-MOST_TASK_WORDS.either
+returns-then-tasks-lt-MOST_TASK_WORDS c =
+    let either = c.then-tasks-lt-MOST_TASK_WORDS.either in
+    read_short _ _ _ (grind arith)
 
 pub returns-in_err-pass : goal.returns-in_err-pass
 returns-in_err-pass c =
